@@ -112,7 +112,7 @@ class Docs(unittest.TestCase):
         (self.folder / "textpeer").symlink_to(TOP / "textpeer")
 
     def shell(self, *commands):
-        """What commands print, one after another in one shell, of which each has to be done."""
+        """What commands print, one after another in one shell. Each has to be done."""
         words = ["bash", "-e", "-o", "pipefail", "-c", "\n".join(commands)]
         environment = {name: value for name, value in os.environ.items() if name not in ("PKG_CONFIG_PATH", "LD_LIBRARY_PATH", "FROM")}
         ran = subprocess.run(words, cwd=self.folder, env=environment, stdout=subprocess.PIPE, stderr=subprocess.STDOUT, text=True,

@@ -1,4 +1,4 @@
-/* How long 10,000 edits take, of a character each at the end of the text, and 10,000 splices in one edit, each of which replaces a
+/* How long 10,000 edits take, of a character each at the end of the text, and 10,000 splices in one edit, where each replaces a
  * character: `ffi/edits` builds and runs it. */
 #include "textpeer.h"
 

@@ -64,7 +64,7 @@ static void add_line(tp_shared *notes, const char *line)
     free(text);
 }
 
-/* The editor's answer, of which this is the length, with a zero after it; the caller frees it. */
+/* The editor's answer, which has this length, with a zero after it; the caller frees it. */
 static uint8_t *answer(tp_shared *notes, size_t len)
 {
     uint8_t *bytes = malloc(len + 1);
@@ -73,7 +73,7 @@ static uint8_t *answer(tp_shared *notes, size_t len)
     return bytes;
 }
 
-/* Sends the editor's answer, of which this is the length. */
+/* Sends the editor's answer, which has this length. */
 static void send_answer(tp_shared *notes, int connection, size_t len)
 {
     uint8_t *bytes = answer(notes, len);

@@ -21,7 +21,7 @@ void *__real_malloc(size_t size);
 void *__real_realloc(void *block, size_t size);
 
 static _Thread_local uint64_t random_state;
-static _Thread_local unsigned growths_refused_in; /* one growth in so many is refused; 0: none */
+static _Thread_local unsigned growths_refused_in; /* one growth in this many is refused; 0: none */
 
 static uint64_t draw(void)
 {
@@ -92,7 +92,7 @@ static uint32_t status_of(fuzzer *f, const char *call, uint32_t status, const ui
 
 #define STATUS(call, status, ...) status_of(f, call, status, (const uint32_t[]){__VA_ARGS__ __VA_OPT__(, ) 0})
 
-/* Keeps the answer, and checks that there is as much of it as was told. */
+/* Keeps the answer, and checks that there is as much of it as was said. */
 static void keep_answer(fuzzer *f, tp_handle *handle, const char *call, size_t len)
 {
     uint8_t *out = __real_malloc(len + 1);
@@ -365,7 +365,7 @@ static void fuzz_text_at(fuzzer *f, tp_handle *handle)
     }
 }
 
-/* The splices, of which each has the next bytes of the texts, lead from the one text to the other: they rise, none is empty or
+/* The splices, each with the next bytes of the texts, lead from the one text to the other: they rise, none is empty or
  * touches another, and no bytes are left over. */
 static void check_leads(const uint8_t *from, size_t from_len, const uint8_t *to, size_t to_len, const tp_splice *splices,
                         size_t count, const uint8_t *texts, size_t texts_len)
@@ -645,7 +645,7 @@ static void fuzz_merge(fuzzer *f, size_t document)
 
 /* ---- sessions */
 
-/* One side of a session: what it has to send, and what it was told last. */
+/* One side of a session: what it has to send, and what was sent to it last. */
 typedef struct {
     tp_handle *handle;
     uint8_t *due;

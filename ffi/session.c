@@ -19,7 +19,7 @@ static void must(uint32_t status, const char *call)
     }
 }
 
-/* The handle's answer with a zero behind it, which the caller frees. */
+/* The handle's answer with a zero after it, which the caller frees. */
 static uint8_t *answer(tp_handle *handle, size_t len)
 {
     uint8_t *bytes = malloc(len + 1);

@@ -24,7 +24,7 @@ static void *some(void *memory)
     return memory;
 }
 
-/* The editor's answer and a zero behind it, which the caller frees. */
+/* The editor's answer and a zero after it, which the caller frees. */
 static uint8_t *answer(tp_shared *shared, size_t len)
 {
     uint8_t *bytes = some(malloc(len + 1));

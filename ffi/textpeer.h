@@ -354,7 +354,8 @@ typedef struct tp_change {
 } tp_change;
 
 /* Writes what the applied change with this number says to change. The answer is the hashes of the changes that it depends on,
- * 32 bytes each, rising, and behind them its message as UTF-8. Refused as tp_change_at; nothing is written to change then. */
+ * 32 bytes each, rising, and after them its message as UTF-8. Refused as tp_change_at; nothing is written to change
+ * then. */
 uint32_t tp_change_describe(tp_handle *handle, size_t number, tp_change *change, size_t *len);
 
 /* An element of the text, which stays the same whatever is written before it. */
@@ -367,7 +368,7 @@ typedef struct tp_element {
  * then. */
 uint32_t tp_cursor(tp_handle *handle, size_t at, tp_element *element);
 
-/* Writes how many characters stand before the element to at; it may have been deleted since. Refused as 106 where the document
+/* Writes how many characters are before the element to at; it may have been deleted since. Refused as 106 where the document
  * hasn't the element; nothing is written then. */
 uint32_t tp_cursor_position(tp_handle *handle, const tp_element *element, size_t *at);
 
@@ -384,14 +385,15 @@ uint32_t tp_text_at(tp_handle *handle, const uint8_t *heads, size_t heads_len, s
 uint32_t tp_len_at(tp_handle *handle, const uint8_t *heads, size_t heads_len, size_t *count);
 
 /* What changed from the text at the heads to the text now: writes splices that lead from one to the other, rising, each on the
- * text that those before it leave, and how many they are to count. Room is for so many splices; where there are more, the first
- * are written, and the same call with more room writes all. The answer is the texts of all of them, one after another, of which
- * each has the next len bytes. They are exact by elements: what both texts show is left as it is, and no two could be one. What
- * came since heads near the end is found without going over the whole text. Nothing is written where it is refused. */
+ * text that those before it leave, and how many they are to count. There is room for as many splices as room says;
+ * where there are more, the first are written, and the same call with more room writes all. The answer is the texts of
+ * all of them, one after another; each splice has the next len bytes. They are exact by elements: what both texts show
+ * is left as it is, and no two could be one. What came since heads near the end is found without going over the whole
+ * text. Nothing is written where it is refused. */
 uint32_t tp_differences_since(tp_handle *handle, const uint8_t *heads, size_t heads_len, tp_splice *splices, size_t room,
                               size_t *count, size_t *len);
 
-/* The same, from the text at some heads to that at others. */
+/* What changed from the text at some heads to that at others, as tp_differences_since writes it. */
 uint32_t tp_differences(tp_handle *handle, const uint8_t *from, size_t from_len, const uint8_t *to, size_t to_len,
                         tp_splice *splices, size_t room, size_t *count, size_t *len);
 
@@ -438,15 +440,15 @@ uint32_t tp_receive(tp_handle *handle, size_t link, const uint8_t *bytes, size_t
 typedef tp_handle tp_shared;
 
 /* Opens the journal in the file at the path, to be edited under the actor: tp_shared_open(path, path_len, actor, &shared.at).
- * The actor is 16 bytes that were drawn anew: no change of the journal may be that actor's (501). What a crash left behind
- * the last whole change is cut off. 801 where another has the file open, 802 where it isn't there or can't be opened, locked
- * or read; 301 and further where its bytes are no journal, 308 where it has no header yet; 304 also where whole changes would
- * be cut off, since the record before them is damaged: the program's `recover` has them. Nothing is written to *at then.
- * The path is UTF-8; it ends at path_len, and has no zero in it. */
+ * The actor is 16 bytes that were drawn anew: no change of the journal may be that actor's (501). What a crash left
+ * after the last whole change is cut off. 801 where another has the file open, 802 where it isn't there or can't be
+ * opened, locked or read; 301 and further where its bytes are no journal, 308 where it has no header yet; 304 also
+ * where whole changes would be cut off, since the record before them is damaged: the program's `recover` has them.
+ * Nothing is written to *at then. The path is UTF-8; it ends at path_len, and has no zero in it. */
 uint32_t tp_shared_open(const char *path, size_t path_len, const uint8_t actor[16], void **at);
 
-/* The same, but begins the journal of a new document with this identifier, in a file that isn't there, is empty, or has no
- * whole header. Another one is refused as 505 and stays as it is. */
+/* Does what tp_shared_open does, but begins the journal of a new document with this identifier, in a file that isn't there, is
+ * empty, or has no whole header. Another one is refused as 505 and stays as it is. */
 uint32_t tp_shared_create(const char *path, size_t path_len, const uint8_t id[16], const uint8_t actor[16], void **at);
 
 /* tp_free, tp_answer, tp_id, tp_len, tp_change_count, tp_text and tp_heads by other names. */
@@ -473,7 +475,7 @@ uint32_t tp_shared_cursor(tp_shared *shared, size_t at, uint64_t *counter, uint8
 /* As tp_cursor_position, of an element in parts. */
 uint32_t tp_shared_cursor_position(tp_shared *shared, uint64_t counter, const uint8_t actor[16], size_t *position);
 
-/* Begins a session, and ends one that was going on, of which nothing more is sent. role is 0 for the side that connected and
+/* Begins a session, and ends one that was going on: nothing more of it is sent. role is 0 for the side that connected and
  * 1 for the side that was connected to. The answer is what is to be sent at once: the client's first frame; of a server
  * nothing. A session exchanges what both sides have by then, and what they make until each has said done: so a side that
  * wants what comes later begins another session, over a stream of its own. A refusal, 503 or 608, leaves the answer empty, and

@@ -7,7 +7,7 @@ from dataclasses import dataclass
 
 from tree import TOP
 
-# What the values are of which a shell has something to offer, a file or the hash of a change, and the other values.
+# The values that a shell has something to offer for, a file or the hash of a change, and the other values.
 FILE, HASH, OTHER = "file", "hash", "other"
 KINDS = {"FILE": FILE, "OTHER": FILE, "OUT": FILE, "SAVED": FILE, "LOG": FILE, "SCRIPT": FILE, "TEXT": FILE, "HASH": HASH, "ADDR": OTHER,
          "AT": OTHER, "PAGE": OTHER}
@@ -50,7 +50,7 @@ class Option:
 
     @property
     def has_value(self):
-        """Whether a value always stands after it."""
+        """Whether a value always comes after it."""
         return bool(self.value) and not self.value.startswith("[")
 
     @property

@@ -19,7 +19,7 @@ def module_of(path):
 
 
 def imports_of(text):
-    """What each imported word stands for: a module and a name, or a module alone where the word is its other name."""
+    """What each imported word means: a module and a name, or a module alone where the word is its other name."""
     words = {}
     for module, names, other in IMPORT.findall(text):
         if other:
@@ -36,7 +36,7 @@ def plain(word):
 
 
 def imports_and_passed_on(texts):
-    """Of each module what its imported words stand for, and what each word stands for that a module passes on."""
+    """Of each module what its imported words mean, and what each word means that a module passes on."""
     imports, passed_on = {}, {}
     for path, text in texts.items():
         module = module_of(path)

@@ -3,6 +3,7 @@ the release."""
 import fcntl
 import os
 import platform
+import re
 import shutil
 from pathlib import Path
 
@@ -12,6 +13,22 @@ PLACE = Path(f"{platform.machine()}-{platform.system().lower()}")
 # What a tree has of the release once it was built there, each as a pattern that one file has.
 MADE = ["crates/textpeer/out/textpeer", "ffi/out/libtextpeer.a", "ffi/out/libtextpeer.so.0", "ffi/out/textpeer.h",
         "ffi/out/textpeer.pc", "python/out/textpeer-*.whl"]
+
+
+def unwrapped(page):
+    """A page of Markdown with each paragraph and each item on one line, however its lines are wrapped."""
+    made, in_code, goes_on = [], False, False
+    for line in page.split("\n"):
+        is_fence = bool(re.match(r"\s*(```|~~~)", line))
+        in_code = in_code != is_fence
+        is_prose = bool(line.strip()) and not (in_code or is_fence or re.match(r"[|#<]", line))
+        if goes_on and is_prose and not re.match(r"\s*([-*+>]|\d+[.)]) ", line):
+            made[-1] += f" {line.strip()}"
+        else:
+            made.append(line)
+            # Lines that are indented by four are code, but within a paragraph.
+            goes_on = is_prose and not re.match(r" {4}|\t", line)
+    return "\n".join(made)
 
 
 def one_file(folder, pattern):

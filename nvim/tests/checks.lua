@@ -1,4 +1,4 @@
--- What the tests share: differences are told and counted, and the program `textpeer` ($TEXTPEER_PROGRAM) is run.
+-- What the tests share: differences are printed and counted, and the program `textpeer` ($TEXTPEER_PROGRAM) is run.
 local M = { failed = 0 }
 
 -- Tells what differs, unless it is right; whether it is.
@@ -10,7 +10,7 @@ function M.check(right, what)
   return right
 end
 
--- The lines that the program prints; it must do what it is told.
+-- The lines that the program prints; it must do what it is asked.
 function M.run(...)
   local out = vim.fn.systemlist({ vim.env.TEXTPEER_PROGRAM, ... })
   M.check(vim.v.shell_error == 0, table.concat({ ... }, ' ') .. ': ' .. table.concat(out, ' '))

@@ -1,4 +1,4 @@
--- Neovim's own commands at a journal: what they write, whether they end Neovim, and what is told. It needs the engine's
+-- Neovim's own commands at a journal: what they write, whether they end Neovim, and what is said. It needs the engine's
 -- library and the program `textpeer` ($TEXTPEER_PROGRAM), and exits 1 at a difference.
 local here = debug.getinfo(1, 'S').source:sub(2):match('(.*)/')
 package.path = here .. '/?.lua;' .. package.path
@@ -66,7 +66,7 @@ local function said(editor, command, wanted)
   check(text:find(wanted, 1, true), (':%s says %s, not %s'):format(command, vim.inspect(text), vim.inspect(wanted)))
 end
 
--- That the plugin told this since the last time; '' where it told nothing.
+-- That the plugin said this since the last time; '' where it said nothing.
 local function told(editor, what, wanted)
   local text = editor:told()
   check(wanted == '' and text == '' or wanted ~= '' and text:find(wanted, 1, true),
@@ -181,7 +181,7 @@ local function save_as()
   editor:quit()
 end
 
--- A journal that can't be written: what was typed can be, elsewhere, as it is told.
+-- A journal that can't be written: what was typed can be, elsewhere, as the message says.
 local function full_disk()
   local editor = editor_of()
   editor:lua("require('textpeer').of().document.engine.edit = function() error('JournalFailed', 0) end")
@@ -239,7 +239,8 @@ local function leave_at_once()
   end
 end
 
--- Damaged journals: what helps is told, and they stay. In one a byte of the text is another, in one the length of a record.
+-- Damaged journals: the message says what helps, and they stay. In one a byte of the text is another, in one the length
+-- of a record.
 local function damaged_journals()
   local editor = editor_beside()
   local whole = got('a.journal')
@@ -254,7 +255,7 @@ local function damaged_journals()
   editor:quit()
 end
 
--- Files that are no journals: how one is begun is told, and they stay.
+-- Files that are no journals: the message says how one is begun, and they stay.
 local function no_journals()
   local editor = editor_beside()
   for _, bytes in ipairs({ 'short\n', ('a line of a note\n'):rep(9) }) do
@@ -280,7 +281,7 @@ local function no_journals()
   editor:quit()
 end
 
--- A journal as a plain file: how it is opened is told once, and works.
+-- A journal as a plain file: the message says once how it is opened, and works.
 local function hint()
   local editor = editor_beside()
   local bytes = got('a.journal')

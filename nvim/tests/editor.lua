@@ -55,7 +55,7 @@ function Editor:engine()
   ]]))
 end
 
--- What the plugin told since the last time, as one text.
+-- What the plugin said since the last time, as one text.
 function Editor:told()
   return self:lua([[
     local texts = {}

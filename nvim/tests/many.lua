@@ -114,7 +114,8 @@ local function time_of(took)
   return ('%d ms (%d of the processor)'):format(unpack(took))
 end
 
--- Types the keys: they make so many changes, and the lines. What that took, in words, and by how many bytes the journal grew.
+-- Types the keys: they make `changes` changes, and the lines. What that took, in words, and by how many bytes the
+-- journal grew.
 local function makes(editor, keys, changes, lines, what)
   local took, made, grown = unpack(typed(editor, keys))
   check(made == changes, ('%s: %d changes, not %d'):format(what, made, changes))

@@ -56,7 +56,7 @@ local function meet(what)
   return text
 end
 
--- Random commands of both, for so many turns.
+-- Random commands of both, for a number of turns.
 local KEYS = {
   'x', 'dd', 'p', 'P', 'yyp', 'J', 'u', '<C-r>', '~', '>>', 'j', 'k', 'gg', 'G', 'w', 'b', 'dw', 'ddp', 'ofresh line<Esc>', 'Otop<Esc>', 'iä€😀<Esc>',
   'A end<Esc>', 'ihello <Esc>', 'o<CR><CR><Esc>', ':s/e/EE/ge<CR>', ':%s/a/ä/ge<CR>', 'vjd', '<C-v>jlIq<Esc>', 'ciwword<Esc>', 'guu', '.',

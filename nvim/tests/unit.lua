@@ -178,7 +178,7 @@ local function receive(document, fake)
   check(not document.stopped, 'what comes: ' .. tostring(document.stopped))
 end
 
--- Others' edits come between: both texts agree, cursors keep their characters, and so do marks within the text, of which only
+-- Others' edits come between: both texts agree, cursors keep their characters, and so do marks within the text: only
 -- what came or went is changed.
 local arrivals, cursors, marks = 0, 0, 0
 local namespace = api.nvim_create_namespace('textpeer-test')
@@ -481,7 +481,7 @@ do
   document:close()
 end
 
--- The buffer and what is kept differ for a reason that nobody thought of: it is mended and told.
+-- The buffer and what is kept differ for a reason that nobody thought of: it is mended and reported.
 do
   told = {}
   local document, fake, buffer = buffer_of('abc\ndef')
@@ -500,7 +500,7 @@ do
   check(document.stopped == 'no more' and fake.closed and vim.bo[buffer].modified and #told == 3, 'an edit that is refused')
 end
 
--- The same where something comes: it is shown anew.
+-- A difference where something comes is mended: the text is shown anew.
 do
   told = {}
   local document, fake, buffer = buffer_of('abc\ndef')

@@ -133,8 +133,8 @@ class ByHand(unittest.TestCase):
 
 
 class Model:
-    """The texts of a document by the bytes of its changes (docs/FORMATS.md): its elements as a tree, of which each stands
-    before those that refer to it, and of these the one with the greatest identifier first."""
+    """The texts of a document by the bytes of its changes (docs/FORMATS.md): its elements as a tree. Each is
+    before those that refer to it, and of these the one with the greatest identifier is first."""
 
     def __init__(self):
         self.deps, self.inserts, self.deletes = {}, {}, {}
@@ -200,7 +200,7 @@ class Model:
         return "".join(self.chars[each] for each in self.order() if each in shown)
 
     def differences(self, start, end):
-        """The splices between what two texts show, each as long as nothing stands between that both show."""
+        """The splices between what two texts show, each as long as nothing is between that both show."""
         was, now = self.shown(start), self.shown(end)
         splices, at, delete, text = [], 0, 0, ""
         for each in [*self.order(), None]:

@@ -223,7 +223,7 @@ class Bytes(Folder):
     """Sessions by bytes alone."""
 
     def carry(self, client, server, size=1 << 20):
-        """Carries bytes between two sessions, so many at a time, until neither has any. What each sent."""
+        """Carries bytes between two sessions, `size` at a time, until neither has any. What each sent."""
         sent = {client: [], server: []}
         while True:
             due = [(client, server, client.data_to_send()), (server, client, server.data_to_send())]
@@ -649,7 +649,7 @@ class Network(Folder):
         stranger.end()
 
     def test_what_came_stays(self):
-        # The other side has a change, of which this one learns before the other one falls silent.
+        # The other side has a change, and this one learns of it before the other one falls silent.
         with SharedEditor.create(self.folder / "other", TEXT, BEN) as other:
             other.edit(0, 0, "q")
 

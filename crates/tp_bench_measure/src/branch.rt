@@ -25,7 +25,7 @@ pub fn tip_of(change: &Change) -> Tip {
     }
 }
 
-/// A chain of changes by actors in turn, each a character behind the one before it.
+/// A chain of changes by actors in turn, each a character after the one before it.
 #[derive(Drop)]
 pub struct Branch {
     first: u32,
@@ -35,7 +35,7 @@ pub struct Branch {
 }
 
 impl Branch {
-    /// No change yet. The actors, so many, are numbered from the first on.
+    /// No change yet. There are `actors`, numbered from `first` on.
     pub fn new(first: u32, actors: u32) -> Branch {
         Branch {
             first,
@@ -45,12 +45,12 @@ impl Branch {
         }
     }
 
-    /// What its next change stands on.
+    /// What its next change depends on.
     pub fn tip(&self) -> Option<Tip> {
         self.tip
     }
 
-    /// Goes on behind the change of another actor.
+    /// Goes on after the change of another actor.
     pub fn go_on(&mut self, tip: Tip) {
         self.tip = Some(tip);
     }

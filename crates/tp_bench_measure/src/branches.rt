@@ -5,7 +5,7 @@ use crate::made::{actor_of, merge_on};
 use std::alloc::Global;
 use tp_change::Change;
 
-/// Branches, each by actors of its own, whose changes come by turns of so many.
+/// Branches, each by actors of its own, whose changes come by turns.
 #[derive(Drop)]
 pub struct Branches {
     items: Vec<Branch>,
@@ -14,7 +14,7 @@ pub struct Branches {
 }
 
 impl Branches {
-    /// So many branches of one actor each, without changes. Of each so many changes come before the next one's.
+    /// `count` branches of one actor each, without changes. Of each one `each` changes come before the next one's.
     pub fn new(alloc: Global, count: u32, each: u64) -> anyhow::Result<Branches> {
         let mut items = Vec::new(alloc);
         for number in 0..count {
@@ -27,7 +27,7 @@ impl Branches {
         })
     }
 
-    /// One branch of so many actors.
+    /// One branch of `actors` actors.
     pub fn of_one(alloc: Global, actors: u32) -> anyhow::Result<Branches> {
         let mut items = Vec::new(alloc);
         items.push(Branch::new(0, actors))?;
@@ -68,14 +68,14 @@ impl Branches {
         Ok(tips)
     }
 
-    // Lets each branch go on behind the change.
+    // Lets each branch go on after the change.
     fn go_on(&mut self, tip: Tip) {
         for branch in self.items.iter_mut() {
             branch.go_on(tip);
         }
     }
 
-    /// The merge of the branches, behind which they go on.
+    /// The merge of the branches. They go on after it.
     pub fn merge(&mut self, alloc: Global, seq: u64) -> anyhow::Result<Change> {
         let tips = self.tips(alloc)?;
         let merge = merge_on(alloc, actor_of(u32::MAX), seq, tips.as_slice())?;

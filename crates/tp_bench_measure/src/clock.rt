@@ -33,12 +33,12 @@ impl Stopwatch {
     }
 }
 
-/// How many nanoseconds each of so many took, of microseconds for all.
+/// How many nanoseconds each of `count` took, where all took `micros` microseconds.
 pub fn nanos_each(micros: u64, count: u64) -> u64 {
     micros.saturating_mul(1_000) / count.max(1)
 }
 
-/// Prints how long something took with so many bytes, and how many megabytes a second that is.
+/// Prints how long something took with `bytes` bytes, and how many megabytes a second that is.
 pub fn report<R: Print>(rt: &R, name: &str, bytes: u64, micros: u64) -> anyhow::Result<()> {
     let millis = micros / 1000;
     let speed = bytes / micros.max(1);

@@ -24,7 +24,7 @@ pub use made::{
     AUTHOR, actor_of, change, change_by, change_on, element_of, merge_on, place_of, run_after,
 };
 pub use neighbour::{Link, Neighbour};
-pub use records::{behind_both, both, inserts};
+pub use records::{after_both, both, inserts};
 pub use ring::{Ring, Traffic};
 pub use room::{Crowd, Room};
 pub use script::{AUTHORS, Script};

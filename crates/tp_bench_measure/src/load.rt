@@ -32,7 +32,7 @@ pub struct Load {
 }
 
 impl Load {
-    /// So many calls of the task.
+    /// `calls` calls of the task.
     pub fn new(task: Task, calls: usize) -> Load {
         Load { task, calls }
     }

@@ -8,7 +8,7 @@ use tp_opid::Hash;
 
 const TYPED: &str = "0123456789";
 
-/// A log, and what the next change of it stands on.
+/// A log, and what its next change depends on.
 #[derive(Drop)]
 struct Log {
     alloc: Global,
@@ -55,7 +55,7 @@ impl Log {
     }
 }
 
-// The counter of an element among so many that chance picks; 0 where there is none.
+// The counter of an element that chance picks among `len`; 0 where there is none.
 fn any_of(chance: &mut Chance, len: u64) -> u64 {
     if len == 0 {
         0
@@ -64,7 +64,7 @@ fn any_of(chance: &mut Chance, len: u64) -> u64 {
     }
 }
 
-/// A log of so many changes of ten characters, each at the end, or behind an element that chance picks.
+/// A log of `count` changes of ten characters, each at the end, or after an element that chance picks.
 pub fn log_of(alloc: Global, count: u64, anywhere: bool) -> anyhow::Result<Vec<u8>> {
     let mut log = Log::new(alloc);
     let mut chance = Chance::new();

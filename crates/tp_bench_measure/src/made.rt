@@ -23,7 +23,7 @@ pub fn element_of(counter: u64) -> OpId {
     }
 }
 
-/// The place behind the author's element with the counter; 0 stands for the start.
+/// The place after the author's element with the counter; 0 stands for the start.
 pub fn place_of(counter: u64) -> Place {
     if counter == 0 {
         Place::Start
@@ -64,7 +64,7 @@ pub fn change_by(
     Ok(Change::new(alloc, parts)?)
 }
 
-/// A change of an actor's of one character, on a change and behind its element. Its lists have no room that isn't used.
+/// A change of an actor's of one character, on a change and after its element. Its lists have no room that isn't used.
 pub fn change_on(
     alloc: Global,
     actor: Actor,

@@ -12,7 +12,7 @@ use tp_sync::{Message, SyncError, SyncState, generate, generate_bytes, receive};
 pub enum Link {
     /// The one before it.
     Before,
-    /// The one behind it.
+    /// The one after it.
     Behind,
 }
 
@@ -33,7 +33,7 @@ pub struct Neighbour {
     actor: Actor,
     document: Document<BlockSequence>,
     before: SyncState,
-    behind: SyncState,
+    beyond: SyncState,
 }
 
 impl Neighbour {
@@ -44,19 +44,19 @@ impl Neighbour {
             actor: Actor([number; 16]),
             document: Document::new(alloc, DocId([7; 16])),
             before: SyncState::new(alloc),
-            behind: SyncState::new(alloc),
+            beyond: SyncState::new(alloc),
         }
     }
 
-    /// Has another neighbour behind it from now on, of whom it knows nothing.
+    /// Has another neighbour after it from now on, of whom it knows nothing.
     pub fn meet(&mut self) {
-        self.behind = SyncState::new(self.alloc);
+        self.beyond = SyncState::new(self.alloc);
     }
 
     /// Knows nothing of its neighbours from now on.
     pub fn part(&mut self) {
         self.before = SyncState::new(self.alloc);
-        self.behind = SyncState::new(self.alloc);
+        self.beyond = SyncState::new(self.alloc);
     }
 
     /// How many changes it has.
@@ -64,7 +64,7 @@ impl Neighbour {
         self.document.changes().len()
     }
 
-    /// Types so many characters at the end of the text, each a change.
+    /// Types `changes` characters at the end of the text, each a change.
     pub fn write(&mut self, changes: usize) -> anyhow::Result<()> {
         for _ in 0..changes {
             let end = self.document.len();
@@ -73,7 +73,7 @@ impl Neighbour {
         Ok(())
     }
 
-    /// Inserts so many characters at the start of the text, each a change.
+    /// Inserts `changes` characters at the start of the text, each a change.
     pub fn write_at_start(&mut self, changes: usize) -> anyhow::Result<()> {
         for _ in 0..changes {
             self.insert_one(0)?;
@@ -95,7 +95,7 @@ impl Neighbour {
     fn message(&mut self, link: Link) -> Result<Option<Message>, SyncError> {
         match link {
             Link::Before => generate(self.alloc, &self.document, &mut self.before),
-            Link::Behind => generate(self.alloc, &self.document, &mut self.behind),
+            Link::Behind => generate(self.alloc, &self.document, &mut self.beyond),
         }
     }
 
@@ -103,12 +103,12 @@ impl Neighbour {
     pub fn send(&mut self, link: Link) -> anyhow::Result<Option<Vec<u8>>> {
         let bytes = match link {
             Link::Before => generate_bytes(self.alloc, &self.document, &mut self.before)?,
-            Link::Behind => generate_bytes(self.alloc, &self.document, &mut self.behind)?,
+            Link::Behind => generate_bytes(self.alloc, &self.document, &mut self.beyond)?,
         };
         Ok(bytes)
     }
 
-    /// Whether there is nothing to say to the neighbour behind.
+    /// Whether there is nothing to say to the neighbour after it.
     pub fn is_quiet(&mut self) -> anyhow::Result<bool> {
         let message = self.message(Link::Behind)?;
         Ok(message.is_none())
@@ -118,7 +118,7 @@ impl Neighbour {
     fn hear(&mut self, link: Link, message: Message) -> Result<Applied, SyncError> {
         match link {
             Link::Before => receive(&mut self.document, &mut self.before, message),
-            Link::Behind => receive(&mut self.document, &mut self.behind, message),
+            Link::Behind => receive(&mut self.document, &mut self.beyond, message),
         }
     }
 

@@ -40,7 +40,7 @@ fn odd(number: u64) -> u64 {
     number.saturating_mul(2).saturating_add(1)
 }
 
-/// So many inserts alone, each after one of those before it.
+/// `count` inserts alone, each after one of those before it.
 pub fn inserts(alloc: Global, count: u64) -> anyhow::Result<Vec<Record>> {
     let mut records = Records::new(alloc);
     let mut chance = Chance::new();
@@ -50,7 +50,7 @@ pub fn inserts(alloc: Global, count: u64) -> anyhow::Result<Vec<Record>> {
     Ok(records.items)
 }
 
-/// Inserts and deletes by turns, so many in all, each after or of an insert before it.
+/// Inserts and deletes by turns, `count` in all, each after or of an insert before it.
 pub fn both(alloc: Global, count: u64) -> anyhow::Result<Vec<Record>> {
     let mut records = Records::new(alloc);
     let mut chance = Chance::new();
@@ -63,8 +63,8 @@ pub fn both(alloc: Global, count: u64) -> anyhow::Result<Vec<Record>> {
     Ok(records.items)
 }
 
-/// So many inserts, each after one of the inserts of as many records of both kinds.
-pub fn behind_both(alloc: Global, count: u64) -> anyhow::Result<Vec<Record>> {
+/// `count` inserts, each after one of the inserts of as many records of both kinds.
+pub fn after_both(alloc: Global, count: u64) -> anyhow::Result<Vec<Record>> {
     let mut records = Records::new(alloc);
     let mut chance = Chance::new();
     for _ in 0..count {

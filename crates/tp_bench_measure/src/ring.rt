@@ -20,11 +20,11 @@ pub struct Ring {
     links: usize,
 }
 
-/// After so many rounds of messages something is wrong.
+/// After this many rounds of messages something is wrong.
 const MOST_ROUNDS: usize = 1_000;
 
 impl Ring {
-    /// Peers without changes, of which so many are linked to the next one; the last one's next is the first.
+    /// Peers without changes. The first `links` of them are linked to the next one; the last one's next is the first.
     pub fn new(alloc: Global, peers: u8, links: usize) -> anyhow::Result<Ring> {
         let mut made = Vec::new(alloc);
         for number in 0..peers {
@@ -38,7 +38,7 @@ impl Ring {
         self.peers.get_mut(number).ok_or(anyhow!("no such peer"))
     }
 
-    /// Each peer makes so many changes.
+    /// Each peer makes `changes` changes.
     pub fn write(&mut self, changes: usize) -> anyhow::Result<()> {
         for number in 0..self.peers.len() {
             self.peer(number)?.write(changes)?;
@@ -54,7 +54,7 @@ impl Ring {
         Ok(())
     }
 
-    /// Each peer has so many changes.
+    /// Each peer has `changes` changes.
     pub fn expect_counts(&self, changes: usize) -> anyhow::Result<()> {
         for peer in self.peers.as_slice() {
             ensure!(peer.change_count() == changes, "changes are missing");
@@ -62,7 +62,7 @@ impl Ring {
         Ok(())
     }
 
-    // The number of the peer behind another one.
+    // The number of the peer after another one.
     fn next(&self, number: usize) -> usize {
         number.saturating_add(1) % self.peers.len().max(1)
     }
@@ -79,10 +79,10 @@ impl Ring {
     }
 
     // Passes the next message between two peers, there and back. Answers what passed.
-    fn exchange(&mut self, before: usize, behind: usize) -> anyhow::Result<Traffic> {
+    fn exchange(&mut self, before: usize, beyond: usize) -> anyhow::Result<Traffic> {
         let mut traffic = Traffic::none();
-        traffic.add(self.pass(before, behind, Link::Behind)?);
-        traffic.add(self.pass(behind, before, Link::Before)?);
+        traffic.add(self.pass(before, beyond, Link::Behind)?);
+        traffic.add(self.pass(beyond, before, Link::Before)?);
         Ok(traffic)
     }
 
@@ -142,7 +142,7 @@ impl Traffic {
         }
     }
 
-    // Counts a message of so many bytes.
+    // Counts a message of `bytes` bytes, if there is one.
     fn add(&mut self, bytes: Option<usize>) {
         if let Some(bytes) = bytes {
             self.messages = self.messages.saturating_add(1);

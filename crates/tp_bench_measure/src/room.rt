@@ -78,7 +78,7 @@ impl Room {
         })
     }
 
-    /// So many threads make an equal part of the calls each. How many were done.
+    /// The threads of the crowd make an equal part of the calls each. How many were done.
     pub fn work<R: Threads + Wait + Sync>(self, rt: &R, crowd: Crowd, load: Load) -> usize {
         let Room {
             served,

@@ -65,7 +65,7 @@ impl<S: Sequence> Script<S> {
         Ok(self.sequence.delete(target, by)?)
     }
 
-    /// Types so many characters behind the last one typed.
+    /// Types `count` characters after the last one typed.
     pub fn type_run(&mut self, actor: Actor, count: usize) -> anyhow::Result<()> {
         for _ in 0..count {
             let id = self.insert(actor, self.last)?;
@@ -82,7 +82,7 @@ impl<S: Sequence> Script<S> {
         }
     }
 
-    /// The text of so many elements, typed at the end by two authors in turn, a character of each run taken back.
+    /// The text of `size` elements, typed at the end by two authors in turn, a character of each run taken back.
     pub fn fill(&mut self, size: usize) -> anyhow::Result<()> {
         for _ in 0..size / (RUN * 2) {
             for author in AUTHORS {
@@ -99,7 +99,7 @@ impl<S: Sequence> Script<S> {
         self.sequence.id_at(at).ok_or_else(|| anyhow!("no text"))
     }
 
-    /// So many of their identifiers, which chance picks.
+    /// `count` of their identifiers, which chance picks.
     pub fn any_ids(&mut self, alloc: Global, count: usize) -> anyhow::Result<Vec<OpId>> {
         let mut ids = Vec::with_capacity(alloc, count)?;
         for _ in 0..count {
@@ -108,7 +108,7 @@ impl<S: Sequence> Script<S> {
         Ok(ids)
     }
 
-    /// Inserts so many characters, each behind one that chance picks.
+    /// Inserts `count` characters, each after one that chance picks.
     pub fn insert_anywhere(&mut self, count: usize) -> anyhow::Result<()> {
         for _ in 0..count {
             let after = self.any_id()?;
@@ -117,7 +117,7 @@ impl<S: Sequence> Script<S> {
         Ok(())
     }
 
-    /// Deletes so many characters, which chance picks.
+    /// Deletes `count` characters, which chance picks.
     pub fn delete_anywhere(&mut self, count: usize) -> anyhow::Result<()> {
         for _ in 0..count {
             let target = self.any_id()?;
@@ -126,7 +126,7 @@ impl<S: Sequence> Script<S> {
         Ok(())
     }
 
-    /// Inserts a character of another author behind each of the elements.
+    /// Inserts a character of another author after each of the elements.
     pub fn insert_remote(&mut self, after: &[OpId]) -> anyhow::Result<()> {
         for id in after {
             self.insert(REMOTE, Place::After(*id))?;

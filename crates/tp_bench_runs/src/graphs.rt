@@ -4,7 +4,7 @@ use anyhow::anyhow;
 use std::alloc::Global;
 use std::rt::{Clock, Files};
 use tp_bench_measure::{
-    Branches, Stopwatch, behind_both, both, change, inserts, memory, nanos_each,
+    Branches, Stopwatch, after_both, both, change, inserts, memory, nanos_each,
 };
 use tp_change::Change;
 use tp_graph::Graph;
@@ -43,7 +43,7 @@ fn add_all(graph: &mut Graph, changes: Vec<Change>) -> anyhow::Result<()> {
     Ok(())
 }
 
-// Adds the next changes, so many, and prints what it took, in nanoseconds a change.
+// Adds the next `count` changes, and prints what it took, in nanoseconds a change.
 fn add_tenth<R: Clock + Print + AllocGlobal>(
     rt: &R,
     graph: &mut Graph,
@@ -57,7 +57,7 @@ fn add_tenth<R: Clock + Print + AllocGlobal>(
     Ok(print!(rt; " {nanos:>6}")?)
 }
 
-// Adds so many changes to the graph, by tenths.
+// Adds `changes` changes to the graph, by tenths.
 fn add_tenths<R: Clock + Print + AllocGlobal>(
     rt: &R,
     graph: &mut Graph,
@@ -116,7 +116,7 @@ fn add_chain<R: Files + Clock + Print + AllocGlobal>(
     report_held(rt)
 }
 
-/// A chain of so many changes, each on the one before it, by so many actors in turn.
+/// A chain of `changes` changes, each on the one before it, by `actors` actors in turn.
 pub fn run_chain<R: Files + Clock + Print + AllocGlobal>(
     rt: &R,
     actors: u32,
@@ -139,7 +139,7 @@ fn add_branches<R: Files + Clock + Print + AllocGlobal>(
     report_held(rt)
 }
 
-/// So many branches of 40,000 changes in all, so many of each before the next one's, and their merge, ten times.
+/// `count` branches of 40,000 changes in all, `each` of one branch before the next one's, and their merge, ten times.
 pub fn run_branches<R: Files + Clock + Print + AllocGlobal>(
     rt: &R,
     count: u32,
@@ -180,17 +180,17 @@ fn add_both<R: Clock + Print + AllocGlobal>(rt: &R, graph: &mut Graph) -> anyhow
 }
 
 // A change on the one with the hash, of inserts that refer to its inserts.
-fn change_behind(alloc: Global, hash: Hash) -> anyhow::Result<Change> {
-    let records = behind_both(alloc, RECORDS)?;
+fn change_after(alloc: Global, hash: Hash) -> anyhow::Result<Change> {
+    let records = after_both(alloc, RECORDS)?;
     let mut deps = Vec::new(alloc);
     deps.push(hash)?;
     change(alloc, 2, RECORDS + 1, deps, records)
 }
 
-// The change with inserts and deletes, and one behind it.
+// The change with inserts and deletes, and one after it.
 fn add_two<R: Clock + Print + AllocGlobal>(rt: &R, graph: &mut Graph) -> anyhow::Result<()> {
     let hash = add_both(rt, graph)?;
-    let second = change_behind(rt.alloc(), hash)?;
+    let second = change_after(rt.alloc(), hash)?;
     report_add(
         rt,
         graph,

@@ -63,7 +63,7 @@ const CASES: [Case; 5] = [
 struct Counts {
     // Each on a link of which nothing is known but what the other declares.
     anew: u64,
-    // Each on the same link, behind one that was lost.
+    // Each on the same link, after one that was lost.
     again: u64,
 }
 
@@ -85,7 +85,7 @@ fn begun_without_last(alloc: Global, changes: &[Change]) -> anyhow::Result<Vec<u
     next_message(&mut peer)
 }
 
-// The other begins anew, and the peer makes its message; so many times. Answers how many bytes these had.
+// The other begins anew, and the peer makes its message, `times` times. Answers how many bytes these had.
 fn make_anew(peer: &mut Peer<MemJournal>, begun: &[u8], times: u64) -> anyhow::Result<usize> {
     let mut total = 0usize;
     for _ in 0..times {
@@ -96,7 +96,7 @@ fn make_anew(peer: &mut Peer<MemJournal>, begun: &[u8], times: u64) -> anyhow::R
     Ok(total)
 }
 
-// The peer makes its next message, so many times, though the other hears none. Answers how many bytes these had.
+// The peer makes its next message, `times` times, though the other hears none. Answers how many bytes these had.
 fn make_again(peer: &mut Peer<MemJournal>, times: u64) -> anyhow::Result<usize> {
     let mut total = 0usize;
     for _ in 0..times {

@@ -51,7 +51,7 @@ fn merge_all<R: Clock + Print>(
     Ok(())
 }
 
-// Merges into a document of so many changes.
+// Merges into a document of `count` changes.
 fn run_on<R: Clock + Print + AllocGlobal>(rt: &R, count: u64) -> anyhow::Result<()> {
     let mut branch = Branch::new(0, 1);
     let document = document_of(rt.alloc(), branch.next(rt.alloc(), count)?)?;

@@ -109,7 +109,7 @@ fn waiting(alloc: Global, seq: u32) -> anyhow::Result<Change> {
     change(alloc, seq, seq, deps, records)
 }
 
-// The begin of the sync frame, up to the first change, where each has so many bytes.
+// The begin of the sync frame, up to the first change, where each has `change_len` bytes.
 fn front(alloc: Global, change_len: u32) -> anyhow::Result<Vec<u8>> {
     let body = CHANGES
         .saturating_mul(change_len.saturating_add(4))

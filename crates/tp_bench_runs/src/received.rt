@@ -1,6 +1,8 @@
 //! Changes received, beside the digest of their bytes.
 
-use crate::store::{CHANGES, ID, long_changes, opened, report_loaded, report_opened, with_records};
+use crate::store::{
+    CHANGES, ID, long_changes, recovered_document, report_loaded, report_opened, with_records,
+};
 use anyhow::{anyhow, ensure};
 use sha2::{Digest, Sha256};
 use std::alloc::Global;
@@ -121,7 +123,7 @@ fn receive<R: Clock + Print + AllocGlobal>(rt: &R, journal: &[u8]) -> anyhow::Re
 // The document of the journal is opened, and loaded from its saved file; prints what each took.
 fn open_and_load<R: Clock + Print + AllocGlobal>(rt: &R, journal: &[u8]) -> anyhow::Result<()> {
     report_opened(rt, journal)?;
-    let saved = save(rt.alloc(), &opened(rt, journal)?)?;
+    let saved = save(rt.alloc(), &recovered_document(rt, journal)?)?;
     report_digest(rt, saved.as_slice())?;
     report_loaded(rt, &saved)
 }

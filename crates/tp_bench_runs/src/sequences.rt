@@ -41,7 +41,7 @@ const TASKS: [Task; 6] = [
     Task::Delete,
 ];
 
-// Does a task so often, or for so many elements.
+// Does a task `rounds` times, or for the elements.
 fn perform<S: Sequence>(
     script: &mut Script<S>,
     task: Task,

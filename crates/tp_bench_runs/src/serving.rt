@@ -10,7 +10,7 @@ use tp_journal::MemJournal;
 use tp_opid::{Actor, DocId};
 use tp_peer::Peer;
 
-// A peer with a text of so many characters; `None` where there is no memory for it.
+// A peer with a text of `chars` characters; `None` where there is no memory for it.
 fn peer_of(alloc: Global, chars: usize) -> Option<Peer<MemJournal>> {
     let journal = MemJournal::new(Vec::new(alloc));
     let mut peer = Peer::create(alloc, journal, DocId([7; 16]), Actor([1; 16])).ok()?;
@@ -47,7 +47,7 @@ fn run_alone<R: Clock + Print + AllocGlobal>(
     report(rt, "a peer", load, done, watch)
 }
 
-// A served peer with a text of so many characters.
+// A served peer with a text of `chars` characters.
 fn room_of(alloc: Global, chars: usize) -> anyhow::Result<Room> {
     let peer = peer_of(alloc, chars).ok_or(anyhow!("no memory"))?;
     Room::open(alloc, peer).ok_or(anyhow!("no memory"))
@@ -66,7 +66,7 @@ fn run_served<R: Threads + Wait + Sync + Clock + Print + AllocGlobal>(
     report(rt, name, load, done, watch)
 }
 
-/// Makes the calls on a peer with a text of so many characters, and on served ones.
+/// Makes the calls on a peer with a text of `chars` characters, and on served ones.
 pub fn run<R: Threads + Wait + Sync + Clock + Print + AllocGlobal>(
     rt: &R,
     chars: usize,

@@ -79,7 +79,7 @@ where
     Ok(fs::remove_file(rt, PATH)?)
 }
 
-/// The bytes with the records of the changes behind them.
+/// The bytes with the records of the changes after them.
 pub fn with_records(bytes: Vec<u8>, changes: &[Change]) -> anyhow::Result<Vec<u8>> {
     let mut whole = bytes;
     for change in changes {
@@ -89,7 +89,7 @@ pub fn with_records(bytes: Vec<u8>, changes: &[Change]) -> anyhow::Result<Vec<u8
 }
 
 // The document of a journal, and what it took to recover it, in microseconds.
-fn recovered<R: Clock + AllocGlobal>(rt: &R, bytes: &[u8]) -> anyhow::Result<(Doc, u64)> {
+fn time_recover<R: Clock + AllocGlobal>(rt: &R, bytes: &[u8]) -> anyhow::Result<(Doc, u64)> {
     let watch = Stopwatch::start(rt);
     let recovered = recover(rt.alloc(), bytes)?;
     let micros = watch.micros(rt);
@@ -102,12 +102,12 @@ fn report_recovered<R: Clock + Print + AllocGlobal>(
     tenths: u64,
     bytes: &[u8],
 ) -> anyhow::Result<()> {
-    let (_document, micros) = recovered(rt, bytes)?;
+    let (_document, micros) = time_recover(rt, bytes)?;
     let len = bytes.len();
     Ok(println!(rt; "journal-recover tenths {tenths:>2} {len:>9} bytes {micros:>8} micros")?)
 }
 
-// The bytes with the records of a tenth of the changes behind them.
+// The bytes with the records of a tenth of the changes after them.
 fn with_tenth(alloc: Global, bytes: Vec<u8>, branch: &mut Branch) -> anyhow::Result<Vec<u8>> {
     let batch = branch.next(alloc, CHANGES / TENTHS)?;
     with_records(bytes, &batch)
@@ -142,19 +142,22 @@ fn long_journal(alloc: Global) -> anyhow::Result<Vec<u8>> {
 }
 
 /// The document of a journal.
-pub fn opened<R: Clock + AllocGlobal>(rt: &R, bytes: &[u8]) -> anyhow::Result<Doc> {
-    let (document, _micros) = recovered(rt, bytes)?;
+pub fn recovered_document<R: Clock + AllocGlobal>(rt: &R, bytes: &[u8]) -> anyhow::Result<Doc> {
+    let (document, _micros) = time_recover(rt, bytes)?;
     Ok(document)
 }
 
 /// Opens the document of a journal, and prints what that took.
 pub fn report_opened<R: Clock + Print + AllocGlobal>(rt: &R, bytes: &[u8]) -> anyhow::Result<()> {
-    let (_document, micros) = recovered(rt, bytes)?;
+    let (_document, micros) = time_recover(rt, bytes)?;
     Ok(println!(rt; "opened {:>18} bytes {micros:>8} micros", bytes.len())?)
 }
 
 // Saves the document, and prints what it took.
-fn saved<R: Clock + Print + AllocGlobal>(rt: &R, document: &Doc) -> anyhow::Result<Vec<u8>> {
+fn save_and_report<R: Clock + Print + AllocGlobal>(
+    rt: &R,
+    document: &Doc,
+) -> anyhow::Result<Vec<u8>> {
     let watch = Stopwatch::start(rt);
     let bytes = save(rt.alloc(), document)?;
     let micros = watch.micros(rt);
@@ -163,7 +166,7 @@ fn saved<R: Clock + Print + AllocGlobal>(rt: &R, document: &Doc) -> anyhow::Resu
 }
 
 // The document that the bytes keep, and what it took to load it, in microseconds.
-fn loaded<R: Clock + AllocGlobal>(rt: &R, bytes: &[u8]) -> anyhow::Result<(Doc, u64)> {
+fn time_load<R: Clock + AllocGlobal>(rt: &R, bytes: &[u8]) -> anyhow::Result<(Doc, u64)> {
     let watch = Stopwatch::start(rt);
     let document = load(rt.alloc(), bytes)?;
     let micros = watch.micros(rt);
@@ -172,7 +175,7 @@ fn loaded<R: Clock + AllocGlobal>(rt: &R, bytes: &[u8]) -> anyhow::Result<(Doc, 
 
 /// Loads a document, and prints what that took.
 pub fn report_loaded<R: Clock + Print + AllocGlobal>(rt: &R, bytes: &[u8]) -> anyhow::Result<()> {
-    let (document, micros) = loaded(rt, bytes)?;
+    let (document, micros) = time_load(rt, bytes)?;
     let count = document.changes().len();
     let len = bytes.len();
     Ok(println!(rt; "load {count:>9} changes {len:>9} bytes {micros:>8} micros")?)
@@ -180,8 +183,8 @@ pub fn report_loaded<R: Clock + Print + AllocGlobal>(rt: &R, bytes: &[u8]) -> an
 
 // Saves and loads a document of 100,000 changes.
 fn save_and_load<R: Clock + Print + AllocGlobal>(rt: &R) -> anyhow::Result<()> {
-    let document = opened(rt, &long_journal(rt.alloc())?)?;
-    let bytes = saved(rt, &document)?;
+    let document = recovered_document(rt, &long_journal(rt.alloc())?)?;
+    let bytes = save_and_report(rt, &document)?;
     report_loaded(rt, &bytes)
 }
 

@@ -22,13 +22,13 @@ fn settle<R: Clock + Print>(rt: &R, ring: &mut Ring) -> anyhow::Result<()> {
     print_traffic(rt, traffic, micros)
 }
 
-// Prints what it took until each peer had made so many changes.
+// Prints what it took until each peer had made `changes` changes.
 fn print_written<R: Print>(rt: &R, micros: u64, changes: usize) -> anyhow::Result<()> {
     let changes = changes as u64;
     Ok(println!(rt; "write    {changes:>6} changes each {micros:>22} micros")?)
 }
 
-// Each peer makes so many changes; prints what that took.
+// Each peer makes `changes` changes; prints what that took.
 fn write<R: Clock + Print>(rt: &R, ring: &mut Ring, changes: usize) -> anyhow::Result<()> {
     let watch = Stopwatch::start(rt);
     ring.write(changes)?;
@@ -44,7 +44,7 @@ fn run_rounds<R: Clock + Print>(rt: &R, ring: &mut Ring, changes: usize) -> anyh
     Ok(())
 }
 
-// Rounds in a ring whose peers have so many changes in the end.
+// Rounds in a ring whose peers have `total` changes in the end.
 fn run_rounds_to<R: Clock + Print>(
     rt: &R,
     ring: &mut Ring,
@@ -69,7 +69,7 @@ pub fn run_typing<R: Clock + Print + AllocGlobal>(rt: &R) -> anyhow::Result<()> 
     write_rounds(rt, &mut ring, 10_000)
 }
 
-// Both authors insert so many characters at the start; prints what that took.
+// Both authors insert `changes` characters at the start; prints what that took.
 fn write_at_start<R: Clock + Print>(rt: &R, ring: &mut Ring, changes: usize) -> anyhow::Result<()> {
     let watch = Stopwatch::start(rt);
     ring.peer(0)?.write_at_start(changes)?;
@@ -77,7 +77,7 @@ fn write_at_start<R: Clock + Print>(rt: &R, ring: &mut Ring, changes: usize) -> 
     print_written(rt, watch.micros(rt), changes)
 }
 
-// Both authors insert so many characters at the start, and exchange them.
+// Both authors insert `changes` characters at the start, and exchange them.
 fn meet_at_start<R: Clock + Print>(rt: &R, ring: &mut Ring, changes: usize) -> anyhow::Result<()> {
     write_at_start(rt, ring, changes)?;
     settle(rt, ring)
@@ -155,14 +155,14 @@ pub fn run_ring<R: Clock + Print + AllocGlobal>(rt: &R) -> anyhow::Result<()> {
     run_rounds_to(rt, &mut ring, 1, 200)
 }
 
-// The last peer catches up on so many changes of the first.
+// The last peer catches up on `changes` changes of the first.
 fn catch_up<R: Clock + Print>(rt: &R, ring: &mut Ring, changes: usize) -> anyhow::Result<()> {
     ring.peer(0)?.write(changes)?;
     settle(rt, ring)?;
     ring.expect_counts(changes)
 }
 
-// A peer that catches up on so many changes, and the most memory that was held then.
+// A peer that catches up on `changes` changes, and the most memory that was held then.
 fn run_catch_up_on<R: Files + Clock + Print + AllocGlobal>(
     rt: &R,
     changes: usize,
@@ -187,7 +187,7 @@ fn ask(ring: &mut Ring) -> anyhow::Result<()> {
     Ok(())
 }
 
-// What a message takes where a peer caught up on so many changes, and there is nothing to say.
+// What a message takes where a peer caught up on `changes` changes, and there is nothing to say.
 fn time_idle<R: Clock + Print>(rt: &R, ring: &mut Ring, changes: usize) -> anyhow::Result<()> {
     catch_up(rt, ring, changes)?;
     let watch = Stopwatch::start(rt);

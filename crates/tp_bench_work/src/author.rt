@@ -12,7 +12,7 @@ const CHARS: [char; 64] = [
     'é', 'ß', 'ü', 'Ж', 'λ', '漢', '字', '😀',
 ];
 
-/// An edit: so many characters deleted at a position, and a text inserted there.
+/// An edit: characters deleted at a position, and a text inserted there.
 #[derive(Drop)]
 pub struct Typed {
     at: usize,
@@ -44,7 +44,7 @@ pub struct Author {
 }
 
 impl Author {
-    /// Begins at a position, and goes on within so many characters of where they are.
+    /// Begins at a position, and goes on within `reach` characters of where they are.
     pub fn at(cursor: usize, reach: usize) -> Author {
         Author {
             cursor,
@@ -54,7 +54,7 @@ impl Author {
         }
     }
 
-    // Goes elsewhere in a text of so many characters.
+    // Goes elsewhere in a text of `len` characters.
     fn jump(&mut self, chance: &mut Chance, len: usize) {
         let least = self.cursor.saturating_sub(self.reach);
         let most = self.cursor.saturating_add(self.reach).min(len);
@@ -101,7 +101,7 @@ impl Author {
         Ok(Typed { at, del: 0, text })
     }
 
-    /// What comes next in a text of so many characters.
+    /// What comes next in a text of `len` characters.
     pub fn next(
         &mut self,
         alloc: Global,
@@ -122,7 +122,7 @@ impl Author {
     }
 }
 
-/// A text of so many characters.
+/// A text of `count` characters.
 pub fn text_of(alloc: Global, chance: &mut Chance, count: usize) -> anyhow::Result<String> {
     let mut text = String::new(alloc);
     for _ in 0..count {

@@ -28,7 +28,7 @@ const EDITS: usize = 450;
 // How many changes come at once.
 const BATCH: usize = 700;
 
-// So many edits of an author.
+// `edits` edits of an author.
 fn write(
     alloc: Global,
     document: &mut Doc,
@@ -119,7 +119,11 @@ fn shuffle(changes: &mut [Change], chance: &mut Chance) {
 }
 
 // The changes in an order that chance picks, and some of them twice.
-fn shuffled(alloc: Global, changes: &[Change], chance: &mut Chance) -> anyhow::Result<Vec<Change>> {
+fn shuffled_batch(
+    alloc: Global,
+    changes: &[Change],
+    chance: &mut Chance,
+) -> anyhow::Result<Vec<Change>> {
     let mut batch = Vec::new(alloc);
     for change in changes {
         batch.push(change.copy()?)?;
@@ -140,7 +144,7 @@ fn bring(
     digest: &mut Digest,
 ) -> anyhow::Result<()> {
     for batch in changes.chunks(BATCH) {
-        let batch = shuffled(alloc, batch, chance)?;
+        let batch = shuffled_batch(alloc, batch, chance)?;
         let outcome = document.apply(batch)?;
         digest.number(outcome.applied.len());
         digest.number(outcome.refused.len());

@@ -1,6 +1,6 @@
 //! The workloads of bench/workloads.txt: `tp_bench_work NAME SEED [PERCENT]` does the workload of the name, of its usual
-//! size or so many hundredths of it, and prints a digest of all that its calls answered. Each seed gives another input of
-//! the same kind and size. Without words it does a hundredth of each.
+//! size or `PERCENT` hundredths of it, and prints a digest of all that its calls answered. Each seed gives another
+//! input of the same kind and size. Without words it does a hundredth of each.
 #![tactic(auto)]
 
 mod author;

@@ -1,4 +1,4 @@
-//! Peers who write apart exchange messages: two in rounds, many with one, and a newcomer in a session by frames.
+//! Peers who write separately exchange messages: two in rounds, many with one, and a newcomer in a session by frames.
 
 use crate::author::Author;
 use crate::chance::Chance;
@@ -107,8 +107,8 @@ fn talk(
         };
         frame = next;
     }
-    digest.number(sides.0.session.applied() as usize);
-    digest.number(sides.1.session.applied() as usize);
+    digest.number(sides.0.session.applied_count() as usize);
+    digest.number(sides.1.session.applied_count() as usize);
     Ok(())
 }
 
@@ -128,7 +128,7 @@ fn hold_session(
     talk(alloc, hello, &mut host, &mut guest, digest)
 }
 
-// Two write apart and meet, some rounds.
+// Two write separately and exchange what they wrote, some rounds.
 fn write_both(
     alloc: Global,
     one: &mut MemPeer,
@@ -147,7 +147,7 @@ fn write_both(
     Ok(())
 }
 
-// Others with a copy of the text, who write apart.
+// Others with a copy of the text, who write separately.
 fn others(
     alloc: Global,
     first: &MemPeer,
@@ -183,7 +183,7 @@ fn meet_others(
     Ok(())
 }
 
-// Many write apart, and meet the first.
+// Many write separately, and exchange with the first.
 fn meet_many(
     alloc: Global,
     first: &mut MemPeer,
@@ -196,15 +196,15 @@ fn meet_many(
     met
 }
 
-// A newcomer, who is told all that the first has.
+// A newcomer, who is sent all that the first has.
 fn catch_up(alloc: Global, first: &mut MemPeer, digest: &mut Digest) -> anyhow::Result<()> {
     let mut newcomer = peer_of(alloc, 3)?;
     let held = hold_session(alloc, first, &mut newcomer, 100, digest);
-    let (told, all) = (newcomer.change_count(), first.change_count());
+    let (reported, all) = (newcomer.change_count(), first.change_count());
     let shown = read(&newcomer, digest);
     drop(newcomer);
     held?;
-    ensure!(told == all, "changes are missing");
+    ensure!(reported == all, "changes are missing");
     shown
 }
 
@@ -223,7 +223,7 @@ fn meet_all(
     read(second, digest)
 }
 
-/// Writes apart and meets.
+/// Writes separately and exchanges.
 pub fn run(alloc: Global, size: Size, digest: &mut Digest) -> anyhow::Result<()> {
     let mut first = peer_of(alloc, 1)?;
     let mut second = copy_of(alloc, &first, 2)?;

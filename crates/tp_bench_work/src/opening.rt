@@ -95,7 +95,7 @@ fn go_on(alloc: Global, peer: &mut MemPeer, size: Size, digest: &mut Digest) -> 
 }
 
 // The saved file of a peer's document.
-fn saved(alloc: Global, peer: &MemPeer) -> anyhow::Result<Vec<u8>> {
+fn saved_file(alloc: Global, peer: &MemPeer) -> anyhow::Result<Vec<u8>> {
     Ok(save(alloc, peer.document())?)
 }
 
@@ -115,7 +115,7 @@ fn open(alloc: Global, bytes: &[u8], size: Size, digest: &mut Digest) -> anyhow:
         bail!("not opened");
     };
     let went_on = go_on(alloc, &mut peer, size, digest);
-    let file = saved(alloc, &peer);
+    let file = saved_file(alloc, &peer);
     drop(peer);
     went_on?;
     file
@@ -139,7 +139,7 @@ fn log_of(alloc: Global, peer: &mut MemPeer, size: Size) -> anyhow::Result<Vec<u
     for change in peer.document().changes() {
         let len = u32::try_from(change.encoded_len()).unwrap_or(u32::MAX);
         log.extend_from_slice(&len.to_be_bytes())?;
-        log = change.encode_behind(log)?;
+        log = change.encode_after(log)?;
     }
     Ok(log)
 }

@@ -15,7 +15,7 @@ pub type MemPeer = Peer<MemJournal>;
 /// The document of all peers.
 pub const ID: DocId = DocId([7; 16]);
 
-// After so many rounds of messages something is wrong.
+// After this many rounds of messages something is wrong.
 const MOST_ROUNDS: usize = 1_000;
 
 /// The actor with the number, which chance spreads.
@@ -61,7 +61,7 @@ fn write_next(
     Ok(())
 }
 
-/// So many edits of an author.
+/// `edits` edits of an author.
 pub fn write(
     alloc: Global,
     peer: &mut MemPeer,

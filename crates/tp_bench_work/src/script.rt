@@ -103,7 +103,7 @@ impl Script {
     }
 }
 
-// A script of so many events.
+// A script of a number of events.
 fn script_of(alloc: Global, size: Size) -> anyhow::Result<String> {
     let mut script = Script {
         text: String::new(alloc),

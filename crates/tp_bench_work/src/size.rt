@@ -17,7 +17,7 @@ impl Size {
         })
     }
 
-    /// Of so many as many as are done, one at least.
+    /// How many of `count` are done, one at least.
     pub fn share(self, count: usize) -> usize {
         (count.saturating_mul(self.percent) / 100).max(1)
     }

@@ -11,12 +11,12 @@ use std::alloc::Global;
 // How many edits there are in all.
 const EDITS: usize = 300_000;
 
-// How many edits come before the editor asks where things stand, and how often it asks before it reads the text.
+// How many edits come before the editor asks where things are, and how often it asks before it reads the text.
 const EDITS_BETWEEN: usize = 25;
 
 const LOOKS_BETWEEN: usize = 200;
 
-// Asks for a character and a cursor at a position that chance picks, and where the cursor stands.
+// Asks for a character and a cursor at a position that chance picks, and where the cursor is.
 fn look(peer: &MemPeer, chance: &mut Chance, digest: &mut Digest) -> anyhow::Result<()> {
     let len = peer.document().len();
     if len == 0 {
@@ -31,7 +31,7 @@ fn look(peer: &MemPeer, chance: &mut Chance, digest: &mut Digest) -> anyhow::Res
     Ok(())
 }
 
-// So many edits, and a look.
+// `EDITS_BETWEEN` edits, and a look.
 fn write_and_look(
     alloc: Global,
     peer: &mut MemPeer,

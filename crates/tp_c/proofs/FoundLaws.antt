@@ -2,7 +2,7 @@
 use Rattle.std.proofs.Common.{◌≡◌, ℕ, List, subst, sym, Vec, Result, Ok, Err, IfOk}
 use Rattle.std.specs.Global.{Global}
 use Rattle.std.specs.List.{flat_map}
-use Rattle.tp_document.specs.declared.differences.Difference.{Difference}
+use Rattle.tp_snapshot.specs.declared.differences.Difference.{Difference}
 use Rattle.tp_c.specs.Earlier.{text_bytes}
 use Rattle.tp_c.specs.declared.earlier.Found.{Found}
 

@@ -1,12 +1,13 @@
 -- Numbers of differences, written one after another; how much a change inserts; and hashes, read one after another.
 use Rattle.std.proofs.Common.{◌≡◌, ℕ, ◌+◌, ◌<◌, ◌≤◌, min, List, [], ◌∷◌, ◌++◌, length, map, get_or, set, take, drop, sym, ap, ◌∙◌, arith, append_assoc, take-append-drop}
 use Rattle.std.proofs.lemmas.List.{drop_min, drop_more, flat_map_more, length-map, length-take, map_more, set_at, take_min}
-use Rattle.tp_change.specs.Operations.{count_of, op_count}
-use Rattle.tp_change.specs.declared.parts.ChangeParts.{ChangeParts}
-use Rattle.tp_change.specs.declared.record.Record.{Record}
-use Rattle.tp_change.specs.declared.record.Record.TheVariants as record_of
+use Rattle.tp_layout.specs.Counts.{count_of}
+use Rattle.tp_change.specs.Operations.{op_count}
+use Rattle.tp_layout.specs.declared.parts.ChangeParts.{ChangeParts}
+use Rattle.tp_layout.specs.declared.record.Record.{Record}
+use Rattle.tp_layout.specs.declared.record.Record.TheVariants as record_of
 use Rattle.tp_opid.specs.declared.hash.Hash.{Hash}
-use Rattle.tp_document.specs.declared.differences.Difference.{Difference}
+use Rattle.tp_snapshot.specs.declared.differences.Difference.{Difference}
 use Rattle.tp_c.specs.Changes.{inserted_in}
 use Rattle.tp_c.specs.Earlier.{numbers_of_difference, text_bytes, with_numbers}
 use Rattle.tp_c.specs.Heads.{hash_bytes}
@@ -53,10 +54,10 @@ unfolding op_count
 inserted_ops c n m is all = omega (arith, inserted_among c.records, is, all)
 
 -- a hash more of bytes that begin with hashes
-pub hash_more : (bytes : List ℕ) (before : List Hash) (rest : List ℕ) (h : Hash) (behind : List ℕ) → bytes ≡ hash_bytes before ++ rest → h.0 ≡ take 32 rest → behind ≡ drop 32 rest
-    → bytes ≡ hash_bytes (before ++ h ∷ []) ++ behind
-hash_more bytes before rest h behind is front back =
+pub hash_more : (bytes : List ℕ) (before : List Hash) (rest : List ℕ) (h : Hash) (beyond : List ℕ) → bytes ≡ hash_bytes before ++ rest → h.0 ≡ take 32 rest → beyond ≡ drop 32 rest
+    → bytes ≡ hash_bytes (before ++ h ∷ []) ++ beyond
+hash_more bytes before rest h beyond is front back =
     let of_hash : Hash → List ℕ = λ x. x.0 in
     is ∙ ap (λ (l : List ℕ). hash_bytes before ++ l) (sym (take-append-drop 32 rest) ∙ ap (λ (l : List ℕ). l ++ drop 32 rest) (sym front) ∙ ap (λ (l : List ℕ). h.0 ++ l) (sym back))
-    ∙ sym (append_assoc (hash_bytes before) h.0 behind)
-    ∙ ap (λ (l : List ℕ). l ++ behind) (flat_map_more of_hash [] before h)
+    ∙ sym (append_assoc (hash_bytes before) h.0 beyond)
+    ∙ ap (λ (l : List ℕ). l ++ beyond) (flat_map_more of_hash [] before h)

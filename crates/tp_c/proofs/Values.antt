@@ -28,7 +28,7 @@ use Rattle.tp_c.specs.contracts.handle.Handle as hand
 use Rattle.tp_c.specs.contracts.slot.Slot as slot
 use Rattle.std.specs.declared.alloc.Global.{Global}
 use Rattle.tp_editor.specs.EditorState.{EditorState}
-use Rattle.tp_c.specs.Owned.{owned, editor_row}
+use Rattle.tp_c.specs.Owned.{editor_owned, editor_row}
 use Rattle.std.specs.contracts.impls.GlobalAllocator.TheImpl.{ghosts}
 
 abbrev pub both : Val → Val → Val
@@ -71,16 +71,16 @@ Slot = slot.the_row
 
 module _ {M : Type 1} {𝓤 : Ura M} {𝓛 : Logic 𝓤} {K : Type 0} {Γ : List (Item 𝓤)} {G : Goal 𝓤 𝓛.H} where
   pub hand_out : K → (d : Hand.Denot) (vs : List Val)
-      → ((b o : ℕ) → d.at ≡ block_ptr b o → vs ≡ single (vptr b o) ∷ [] → Seq K 𝓛 (‵ (owned d.alloc (block_ptr b o) d.editor) ∷ Γ) G)
+      → ((b o : ℕ) → d.at ≡ block_ptr b o → vs ≡ single (vptr b o) ∷ [] → Seq K 𝓛 (‵ (editor_owned d.alloc (block_ptr b o) d.editor) ∷ Γ) G)
       → Seq K 𝓛 (‵ (Hand.own_val d vs) ∷ Γ) G
   hand_out t d vs k =
       fsplit t $ fpick t (λ vss. fsplit t $ feq_l t (λ ev. fsplit t $ feq_l t (λ ep. drop t $
-      in_a_block t d.at (λ p. owned d.alloc p d.editor) (fst∗ 𝓤 (never 𝓤) (sem 𝓛 (ghosts.dealloc_token d.alloc (bare (lone editor_row.mir)) null_ptr))) (λ b o e. k b o e
+      in_a_block t d.at (λ p. editor_owned d.alloc p d.editor) (fst∗ 𝓤 (never 𝓤) (sem 𝓛 (ghosts.dealloc_token d.alloc (bare (lone editor_row.mir)) null_ptr))) (λ b o e. k b o e
       (subst (λ (p : Ptr). vs ≡ vstruct (of_list (ptr_val p ∷ [])) ∷ []) e
       (subst (λ (ps : List Val). vs ≡ vstruct (of_list (ps ++ [])) ∷ []) ep ev))))))
 
   pub slot_in : K → (b o : ℕ) (a : Global) (x : EditorState)
-      → Step K 𝓛 (‵ (Slot.own_val (record { at = block_ptr b o; editor = Some x; alloc = a }) (single (vptr b o) ∷ [])) ∷ Γ) G (‵ (owned a (block_ptr b o) x) ∷ Γ) G
+      → Step K 𝓛 (‵ (Slot.own_val (record { at = block_ptr b o; editor = Some x; alloc = a }) (single (vptr b o) ∷ [])) ∷ Γ) G (‵ (editor_owned a (block_ptr b o) x) ∷ Γ) G
   slot_in t b o a x = step (λ s. let v : Val = single (vptr b o) in
       nothing t $ feq_i t (List Val) (vptr b o ∷ []) (vptr b o ∷ []) refl $ fjoin t $ feq_i t (List Val) (v ∷ []) (v ∷ []) refl $ fjoin t $
       fpack t (Valss (RawPtr ∷ [])) (within (shape slot.the_type) (block_ptr b o, tt) (v ∷ [])) (vptr b o ∷ [], tt) $ fjoin t $ s)

@@ -3,9 +3,9 @@ use Rattle.std.specs.Prelude.{◌≡◌, ◌⊎◌, ℕ, ◌+◌, ◌<◌, ◌�
 use Rattle.std.specs.Str.{chars}
 use Rattle.tp_change.specs.ChangeHash.{hash_of}
 use Rattle.tp_change.specs.Operations.{op_count}
-use Rattle.tp_change.specs.declared.parts.ChangeParts.{ChangeParts}
-use Rattle.tp_change.specs.declared.record.Record.{Record}
-use Rattle.tp_change.specs.declared.record.Record.TheVariants as record_of
+use Rattle.tp_layout.specs.declared.parts.ChangeParts.{ChangeParts}
+use Rattle.tp_layout.specs.declared.record.Record.{Record}
+use Rattle.tp_layout.specs.declared.record.Record.TheVariants as record_of
 use Rattle.tp_c.specs.Heads.{hash_bytes}
 use Rattle.tp_c.specs.declared.changes.FlatChange.{FlatChange}
 
@@ -37,7 +37,7 @@ pub record IsFlat (c : ChangeParts) (x : FlatChange) : Type 0 where
   pub inserted : x.inserted ≡ inserted_in c.records
   pub deleted : x.inserted + x.deleted ≡ op_count c
 
--- The bytes are the hashes that the change depends on, and its message behind them.
+-- The bytes are the hashes that the change depends on, and its message after them.
 pub record NamesDeps (c : ChangeParts) (bytes : List ℕ) : Type 0 where
   pub message : List ℕ
   pub reads : chars message ≡ c.message

@@ -1,9 +1,9 @@
 -- What is read of earlier texts, by the status.
 use Rattle.std.specs.Prelude.{◌≡◌, ◌⊎◌, ℕ, List, ◌++◌, length, map, take, drop, encode_utf8_all}
 use Rattle.std.specs.List.{flat_map}
-use Rattle.tp_change.specs.declared.parts.ChangeParts.{ChangeParts}
-use Rattle.tp_document.specs.Differences.{AreDifferences, LeadsTo}
-use Rattle.tp_document.specs.declared.differences.Difference.{Difference}
+use Rattle.tp_layout.specs.declared.parts.ChangeParts.{ChangeParts}
+use Rattle.tp_snapshot.specs.Differences.{AreDifferences, LeadsTo}
+use Rattle.tp_snapshot.specs.declared.differences.Difference.{Difference}
 use Rattle.tp_opid.specs.declared.hash.Hash.{Hash}
 use Rattle.tp_c.specs.Heads.{AreHeads, RefusesHeads}
 use Rattle.tp_c.specs.declared.splices.FlatSplice.{FlatSplice}
@@ -13,7 +13,8 @@ abbrev pub ReadsAt : List ChangeParts → List ℕ → (List Hash → Type 0) �
 ReadsAt C heads Answers status =
     ((status ≡ 0) × ((H : List Hash) × AreHeads C heads H × Answers H)) ⊎ RefusesHeads C heads status
 
--- the same, at the heads that bytes are and at others
+-- What was asked between the heads that `from` has and those that `to` has was answered as Answers says; or it was
+-- refused.
 abbrev pub ReadsBetween : List ChangeParts → List ℕ → List ℕ → (List Hash → List Hash → Type 0) → ℕ → Type 0
 ReadsBetween C from to Answers status =
     ((status ≡ 0) × ((H : List Hash) × AreHeads C from H × ((K : List Hash) × AreHeads C to K × Answers H K)))
@@ -27,7 +28,7 @@ text_bytes d = encode_utf8_all d.text
 abbrev pub numbers_of_difference : Difference → FlatSplice
 numbers_of_difference d = record { at = d.at; del = d.del; len = length (text_bytes d) }
 
--- the places, of which the first have the numbers of the differences, as far as there are places
+-- the places, where the first ones have the numbers of the differences, as far as there are places
 abbrev pub with_numbers : List Difference → List FlatSplice → List FlatSplice
 with_numbers ds places = map numbers_of_difference (take (length places) ds) ++ drop (length ds) places
 

@@ -5,7 +5,7 @@ use Rattle.tp_opid.specs.declared.actor.Actor.{Actor}
 use Rattle.tp_opid.specs.declared.hash.Hash.{Hash}
 use Rattle.tp_document.specs.Editing.{DoesSplices}
 use Rattle.tp_edit.specs.declared.splice.Splice.{Splice}
-use Rattle.tp_peer.specs.PeerStep.{Edit, Made, PeerStep, replied}
+use Rattle.tp_peer.specs.PeerStep.{Edit, Made, PeerStep, reply_of_result}
 use Rattle.tp_peer.specs.declared.error.PeerError.{PeerError}
 use Rattle.tp_editor.specs.EditorState.{EditorState, KeepsRest, made_bytes, under}
 use Rattle.tp_c.specs.Flat.{AreSplices, RefusesSplices}
@@ -21,7 +21,7 @@ splice_of at del text = record { at = at; del = del; len = length text }
 -- in turn, and else it is as it was.
 pub record EditsSplices (memory : ℕ) (e : EditorState) (actor : Option Actor) (ss : List Splice) (time : ℕ) (message : List ℕ) (status : ℕ) (e' : EditorState) : Type 0 where
   pub answered : Result (Option Hash) PeerError
-  pub step : PeerStep (under actor e.peer) (Edit ss time (chars message)) (replied Made answered) e'.peer
+  pub step : PeerStep (under actor e.peer) (Edit ss time (chars message)) (reply_of_result Made answered) e'.peer
   pub answer : MatchResult answered (λ made. e'.answer ≡ made_bytes made) (λ error. e'.answer ≡ [])
   pub status_is : status ≡ peer_status memory answered
   pub text : status ≡ 0 → DoesSplices e.peer.applied e'.peer.applied ss
@@ -34,7 +34,7 @@ AsksNoEdit memory flat texts message status =
     ((IsUtf8 message → ⊥) × (status ≡ 4)) ⊎ (IsUtf8 message × RefusesSplices memory flat texts status)
 
 -- what an edit of these splices did, by its status: none was asked, and the answer is empty; or it was asked
-abbrev pub Edits : ℕ → EditorState → Option Actor → List FlatSplice → List ℕ → ℕ → List ℕ → ℕ → EditorState → Type 0
-Edits memory e actor flat texts time message status e' =
+abbrev pub EditsFlatSplices : ℕ → EditorState → Option Actor → List FlatSplice → List ℕ → ℕ → List ℕ → ℕ → EditorState → Type 0
+EditsFlatSplices memory e actor flat texts time message status e' =
     (AsksNoEdit memory flat texts message status × (e' ≡ record e { answer = [] }))
     ⊎ (IsUtf8 message × ((ss : List Splice) × AreSplices flat texts ss × EditsSplices memory e actor ss time message status e'))

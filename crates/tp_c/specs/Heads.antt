@@ -1,8 +1,8 @@
 -- Hashes as C gives them: their bytes, one after another.
-use Rattle.std.specs.Prelude.{◌≡◌, ◌⊎◌, ℕ, ◌<◌, List, length, ◌++◌, false, true}
+use Rattle.std.specs.Prelude.{◌≡◌, ◌⊎◌, ℕ, ◌<◌, List, length, ◌++◌, false, IsTrue}
 use Rattle.std.specs.List.{All, flat_map}
-use Rattle.tp_change.specs.declared.parts.ChangeParts.{ChangeParts}
-use Rattle.tp_graph.specs.Named.{has_all}
+use Rattle.tp_layout.specs.declared.parts.ChangeParts.{ChangeParts}
+use Rattle.tp_history.specs.Named.{has_all}
 use Rattle.tp_opid.specs.declared.hash.Hash.{Hash}
 
 -- the bytes of the hashes, one after another
@@ -22,12 +22,12 @@ pub record EndsInHash (bytes : List ℕ) : Type 0 where
   pub some : 0 < length part
   pub few : length part < 32
 
--- The bytes are those of these hashes, of which each is that of one of the changes.
+-- The bytes are those of these hashes, and each of them is that of one of the changes.
 pub record AreHeads (C : List ChangeParts) (bytes : List ℕ) (H : List Hash) : Type 0 where
   pub bytes_are : hash_bytes H ≡ bytes
-  pub known : has_all C H ≡ true
+  pub known : IsTrue (has_all C H)
 
--- The bytes are those of hashes, of which one is of none of the changes.
+-- The bytes are those of hashes, and one of them is of none of the changes.
 pub record HasUnknown (C : List ChangeParts) (bytes : List ℕ) : Type 0 where
   pub hashes : List Hash
   pub bytes_are : hash_bytes hashes ≡ bytes

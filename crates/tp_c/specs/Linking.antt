@@ -2,14 +2,14 @@
 use Rattle.std.specs.Prelude.{◌≡◌, ◌⊎◌, ℕ, ◌+◌, ◌<◌, ◌≤◌, List, length, Bool, true, false, Result, Ok, Err}
 use Rattle.tp_receive.specs.declared.intake.Applied.{Applied}
 use Rattle.tp_editor.specs.EditorState.{EditorState, KeepsAnswer, KeepsRest}
-use Rattle.tp_editor.specs.Exchanging.{Generates, Receives}
+use Rattle.tp_editor.specs.Exchanging.{Generates, ReceivesOnLink}
 use Rattle.tp_editor.specs.declared.error.EditorError.{EditorError}
 use Rattle.tp_editor.specs.declared.hosting.TheConstants.{MOST_LINKS}
 use Rattle.tp_c.specs.Status.{editor_status}
 
 -- A link was opened, and its number written; or there are as many as an editor opens, and nothing was done.
-abbrev pub Opens : EditorState → ℕ → ℕ → ℕ → EditorState → Type 0
-Opens e status i i' e' =
+abbrev pub OpensLink : EditorState → ℕ → ℕ → ℕ → EditorState → Type 0
+OpensLink e status i i' e' =
     ((status ≡ 0) × (e.links < MOST_LINKS) × (i' ≡ e.links) × (e' ≡ record e { links = e.links + 1 }))
     ⊎ ((status ≡ 504) × (MOST_LINKS ≤ e.links) × (i' ≡ i) × (e' ≡ e))
 
@@ -20,7 +20,7 @@ sent_len (Ok false) answer = 0
 sent_len (Err refusal) answer = 0
 
 -- A message was asked for on the link, with this status and this length.
-pub record Asks (e : EditorState) (i status len : ℕ) (e' : EditorState) : Type 0 where
+pub record GeneratesOnLink (e : EditorState) (i status len : ℕ) (e' : EditorState) : Type 0 where
   pub answered : Result Bool EditorError
   pub status_is : status ≡ editor_status 1 answered
   pub len_is : len ≡ sent_len answered e'.answer
@@ -31,5 +31,5 @@ pub record Asks (e : EditorState) (i status len : ℕ) (e' : EditorState) : Type
 pub record ReceivesBytes (e : EditorState) (i : ℕ) (bytes : List ℕ) (status : ℕ) (e' : EditorState) : Type 0 where
   pub answered : Result Applied EditorError
   pub status_is : status ≡ editor_status 205 answered
-  pub outcome : Receives e i bytes answered e'
+  pub outcome : ReceivesOnLink e i bytes answered e'
   pub rest : KeepsAnswer e e'

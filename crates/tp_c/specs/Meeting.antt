@@ -1,18 +1,18 @@
 -- What sessions do to an editor, by the status.
-use Rattle.std.specs.Prelude.{◌≡◌, ◌⊎◌, ℕ, ◌==◌, List, [], Bool, true, false, cond, None, Result, Ok, Err}
+use Rattle.std.specs.Prelude.{◌≡◌, ◌⊎◌, ℕ, ◌==◌, List, [], Bool, true, false, if◌then◌else◌, None, Result, Ok, Err}
 use Rattle.tp_session.specs.declared.error.NetError.{NetError}
 use Rattle.tp_session.specs.declared.session.Role.{Role}
 use Rattle.tp_session.specs.declared.session.Role.TheVariants.{Client, Server}
 use Rattle.tp_editor.specs.EditorState.{EditorState}
-use Rattle.tp_editor.specs.Meeting.{Begins, Feeds, RefusesBegin}
+use Rattle.tp_editor.specs.Meeting.{BeginsSession, Feeds, RefusesBegin}
 use Rattle.tp_c.specs.Status.{number_of_session}
 
 -- which side a number names: 0 the client, any other the server
 abbrev pub role_of : ℕ → Role
-role_of n = cond (n == 0) Client Server
+role_of n = if n == 0 then Client else Server
 
 -- None began: the status says why, and the answer is empty.
-pub record NotBegun (e : EditorState) (status : ℕ) (e' : EditorState) : Type 0 where
+pub record RefusesSession (e : EditorState) (status : ℕ) (e' : EditorState) : Type 0 where
   pub error : NetError
   pub status_is : status ≡ number_of_session error
   pub why : RefusesBegin e error e'
@@ -21,7 +21,7 @@ pub record NotBegun (e : EditorState) (status : ℕ) (e' : EditorState) : Type 0
 
 -- A session began, or none did.
 pub record Began (e : EditorState) (role : Role) (status : ℕ) (e' : EditorState) : Type 0 where
-  pub done : ((status ≡ 0) × Begins e role e') ⊎ NotBegun e status e'
+  pub done : ((status ≡ 0) × BeginsSession e role e') ⊎ RefusesSession e status e'
   pub links : e'.links ≡ e.links
   pub entered : e'.entered ≡ 0
 
@@ -36,7 +36,7 @@ going_of (Ok false) = 1
 going_of (Err e) = 0
 
 -- The bytes were fed, and answered with this status.
-pub record Fed (e : EditorState) (bytes : List ℕ) (status going : ℕ) (e' : EditorState) : Type 0 where
+pub record IsFed (e : EditorState) (bytes : List ℕ) (status going : ℕ) (e' : EditorState) : Type 0 where
   pub answered : Result Bool NetError
   pub feeds : Feeds e bytes answered e'
   pub links : e'.links ≡ e.links

@@ -3,8 +3,8 @@ use Rattle.std.specs.Prelude.{◌≡◌, ◌⊎◌, ℕ, List, Some, Result, Ok,
 use Rattle.std.specs.Str.{IsUtf8}
 use Rattle.tp_journal.specs.Journal.{no_device}
 use Rattle.tp_opid.specs.declared.actor.Actor.{Actor}
-use Rattle.tp_peer.specs.PeerData.{PeerData, opened}
-use Rattle.tp_editor.specs.EditorState.{EditorState, alone}
+use Rattle.tp_peer.specs.PeerState.{PeerState, opened_peer}
+use Rattle.tp_editor.specs.EditorState.{EditorState, new_editor}
 use Rattle.tp_editor.specs.declared.error.EditorOpenError.{EditorOpenError}
 use Rattle.tp_c.specs.Status.{number_of_opening}
 use Rattle.tp_c.specs.declared.slot.Slot.{Slot}
@@ -26,9 +26,9 @@ PutsBy IsOpen Refuses status s s' =
 
 -- An editor of a document with the peer's changes, in memory alone and edited under the actor, was put there; or memory
 -- was refused, and nothing was written.
-abbrev pub PutsFork : PeerData → Actor → ℕ → Slot → Slot → Type 0
+abbrev pub PutsFork : PeerState → Actor → ℕ → Slot → Slot → Type 0
 PutsFork p actor status s s' =
-    PutsEditor (alone (opened p.id actor p.applied no_device)) status s s' ⊎ ((status ≡ 109) × (s' ≡ s))
+    PutsEditor (new_editor (opened_peer p.id actor p.applied no_device)) status s s' ⊎ ((status ≡ 109) × (s' ≡ s))
 
 -- The path isn't UTF-8: the status is 4, and nothing was written.
 pub record RefusesPath (path : List ℕ) (status : ℕ) (s s' : Slot) : Type 0 where

@@ -15,10 +15,10 @@ use Rattle.tp_editor.specs.contracts.editor.Editor.{the_row}
 abbrev pub editor_row : RattleType
 editor_row = the_row kept.the_row journal.ghosts
 
-abbrev pub owned : Global → Ptr → EditorState → Fml
-owned a p x = box_owns (ghosts.dealloc_token a) editor_row p x
+abbrev pub editor_owned : Global → Ptr → EditorState → Fml
+editor_owned a p x = box_owns (ghosts.dealloc_token a) editor_row p x
 
 -- what the place of a handle owns: the same where an editor was put there, and else nothing
 abbrev pub slot_owned : Global → Ptr → Option EditorState → Fml
 slot_owned a p None = ftrue
-slot_owned a p (Some x) = owned a p x
+slot_owned a p (Some x) = editor_owned a p x

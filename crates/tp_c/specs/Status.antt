@@ -15,7 +15,7 @@ use Rattle.tp_session.specs.declared.error.NetError.{NetError}
 use Rattle.tp_session.specs.declared.error.NetError.TheVariants as net
 use Rattle.tp_store.specs.StoreError as store
 use Rattle.tp_store.specs.declared.error.StoreError.{StoreError}
-use Rattle.tp_sync.specs.SyncError as sync
+use Rattle.tp_message.specs.SyncError as sync
 
 -- the number of a document's refusal
 abbrev pub number_of_doc : DocError → ℕ
@@ -49,7 +49,7 @@ abbrev pub editor_status : {X : Type 0} → ℕ → Result X EditorError → ℕ
 editor_status memory (Ok x) = 0
 editor_status memory (Err e) = number_of_editor memory e
 
--- the number of an error of a session; where the other side told a refusal, its number
+-- the number of an error of a session; where the other side sent a refusal, its number
 abbrev pub number_of_session : NetError → ℕ
 number_of_session (net.Peer e) = number_of_peer 509 e
 number_of_session (net.RefusedByOther code) = 700 + code

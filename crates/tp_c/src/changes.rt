@@ -1,9 +1,9 @@
 //! The changes of a document.
 
 ghost use Rattle.std.specs.Prelude.{◌≡◌, ◌≢◌, ◌⊎◌, ◌≤◌, length, IfOk, IfErr};
-ghost use Rattle.tp_change.specs.Spelling.{spelling};
-ghost use Rattle.tp_change.specs.declared.limits.TheConstants.{MAX_OPS};
-ghost use Rattle.tp_change.specs.declared.parts.ChangeParts.{ChangeParts};
+ghost use Rattle.tp_layout.specs.Spelling.{spelling};
+ghost use Rattle.tp_layout.specs.declared.limits.TheConstants.{MAX_OPS};
+ghost use Rattle.tp_layout.specs.declared.parts.ChangeParts.{ChangeParts};
 ghost use Rattle.tp_c.specs.Changes.{inserted_in, IsApplied, IsFlat, NamesDeps, OfChange};
 ghost use Rattle.tp_c.specs.Reading.{OnlyAnswers};
 
@@ -45,7 +45,7 @@ pub extern "C" fn tp_change_count(handle: &mut Handle) -> usize
 }
 
 // The change with the number, or the status where there is none.
-fn applied(changes: &[Change], number: usize) -> Result<&Change, u32>
+fn nth_change(changes: &[Change], number: usize) -> Result<&Change, u32>
     ensures ok { IfOk result (λ c. IsApplied changes.now number c.now) }
     ensures err { IfErr result (λ status. (status ≡ 3) × (length changes.now ≤ number)) }
 {
@@ -57,13 +57,13 @@ fn applied(changes: &[Change], number: usize) -> Result<&Change, u32>
 }
 
 // The bytes of the change with the number, or the status where there are none.
-fn encoded(changes: &[Change], number: usize) -> Result<Vec<u8>, u32>
+fn nth_bytes(changes: &[Change], number: usize) -> Result<Vec<u8>, u32>
     ensures ok { IfOk result (λ v. (c : ChangeParts) × IsApplied changes.now number c
         × (v.items ≡ spelling c)) }
     ensures err { IfErr result
         (λ status. ((status ≡ 3) × (length changes.now ≤ number)) ⊎ (status ≡ 1)) }
 {
-    match applied(changes, number)?.encode() {
+    match nth_change(changes, number)?.encode() {
         Ok(bytes) => Ok(bytes),
         Err(_) => Err(OUT_OF_MEMORY),
     }
@@ -79,7 +79,7 @@ pub extern "C" fn tp_change_at(handle: &mut Handle, number: usize, len: &mut usi
     ensures around { OnlyAnswers handle.old.editor result len.new handle.new.editor }
 {
     let editor = handle.editor_mut();
-    let bytes = encoded(editor.document().changes(), number);
+    let bytes = nth_bytes(editor.document().changes(), number);
     answer_with(editor, bytes, len)
 }
 
@@ -97,7 +97,7 @@ fn count_inserted(records: &[Record]) -> usize
     total
 }
 
-// The hashes that a change depends on, and its message behind them.
+// The hashes that a change depends on, and its message after them.
 fn deps_and_message(alloc: Global, change: &Change) -> Result<Vec<u8>, AllocError>
     ensures { IfOk result (λ v. NamesDeps change.now v.items) }
 {
@@ -131,7 +131,7 @@ fn describe(alloc: Global, changes: &[Change], number: usize) -> Result<(FlatCha
     ensures err { IfErr result
         (λ status. ((status ≡ 3) × (length changes.now ≤ number)) ⊎ (status ≡ 1)) }
 {
-    let change = applied(changes, number)?;
+    let change = nth_change(changes, number)?;
     match deps_and_message(alloc, change) {
         Ok(bytes) => Ok((flat_of(change), bytes)),
         Err(_) => Err(OUT_OF_MEMORY),
@@ -139,7 +139,7 @@ fn describe(alloc: Global, changes: &[Change], number: usize) -> Result<(FlatCha
 }
 
 /// Writes what the applied change with this number says, from 0 in the order in which they entered, to `change`. The
-/// answer is the hashes of the changes that it depends on, 32 bytes each, rising, and behind them its message as UTF-8;
+/// answer is the hashes of the changes that it depends on, 32 bytes each, rising, and after them its message as UTF-8;
 /// its length is written to `len`. Answers 3 where there are fewer changes, and 1 where a growth was refused; both leave
 /// the answer and `change`.
 #[unsafe(no_mangle)]

@@ -1,14 +1,14 @@
 //! Positions that stay where they are in a text that changes.
 
 ghost use Rattle.std.specs.Prelude.{◌≡◌};
-ghost use Rattle.tp_c.specs.Reading.{Finds, FindsParts, Locates, LocatesParts};
+ghost use Rattle.tp_c.specs.Reading.{FindsElement, FindsParts, Locates, LocatesParts};
 
 use crate::handle::Handle;
 use crate::status::number_of_doc;
 use tp_document::Cursor;
 use tp_opid::{Actor, OpId};
 
-/// An element of the text as C holds it: what a cursor stands at.
+/// An element of the text as C holds it: what a cursor marks.
 #[repr(C)]
 #[derive(Clone, Copy)]
 pub struct Element {
@@ -22,7 +22,7 @@ pub struct Element {
 /// it: nothing is written then.
 #[unsafe(no_mangle)]
 pub extern "C" fn tp_cursor(handle: &mut Handle, at: usize, element: &mut Element) -> u32
-    ensures found { Finds handle.old.editor.peer.applied at result element.old element.new }
+    ensures found { FindsElement handle.old.editor.peer.applied at result element.old element.new }
     ensures same { handle.new.editor ≡ handle.old.editor }
 {
     match handle.editor_mut().document().cursor(at) {
@@ -38,7 +38,7 @@ pub extern "C" fn tp_cursor(handle: &mut Handle, at: usize, element: &mut Elemen
     }
 }
 
-/// Writes how many visible characters stand before the element, which may have been deleted since, to `at`. Answers 106
+/// Writes how many visible characters are before the element, which may have been deleted since, to `at`. Answers 106
 /// where the document hasn't the element: nothing is written then.
 #[unsafe(no_mangle)]
 pub extern "C" fn tp_cursor_position(handle: &mut Handle, element: &Element, at: &mut usize) -> u32
@@ -82,7 +82,7 @@ pub extern "C" fn tp_shared_cursor(
     status
 }
 
-/// Writes how many visible characters stand before the element, which is given in parts, as [`tp_cursor_position`]
+/// Writes how many visible characters are before the element, which is given in parts, as [`tp_cursor_position`]
 /// does.
 #[unsafe(no_mangle)]
 pub extern "C" fn tp_shared_cursor_position(

@@ -3,7 +3,7 @@
 ghost use Rattle.std.specs.Prelude.{◌≡◌, ◌≢◌, ◌⊎◌, List, length, IfOk, IfErr};
 ghost use Rattle.std.specs.List.{flat_map};
 ghost use Rattle.tp_document.specs.Common.{chars, past, IsTextOf};
-ghost use Rattle.tp_document.specs.Showing.{HasLength};
+ghost use Rattle.tp_snapshot.specs.Showing.{HasLength};
 ghost use Rattle.tp_opid.specs.declared.hash.Hash.{Hash as HashOf};
 ghost use Rattle.tp_c.specs.Earlier.{text_bytes, with_numbers, AnswersDifferences, IsFound, ReadsAt, ReadsBetween};
 ghost use Rattle.tp_c.specs.Heads.{AreHeads, RefusesHeads};
@@ -203,7 +203,7 @@ fn found_between(
 /// texts as UTF-8, one after another, of all of them; its length is written to `len`.
 ///
 /// They are exact by elements: none touches an element that both texts show, and no two could be one. Where few changes
-/// came since the heads the cost goes by what they change, and by how many elements stand between.
+/// came since the heads the cost goes by what they change, and by how many elements are between.
 ///
 /// Refused as [`tp_text_at`], which leaves the answer: nothing is written then.
 #[unsafe(no_mangle)]

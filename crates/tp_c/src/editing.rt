@@ -2,7 +2,7 @@
 
 ghost use Rattle.std.specs.Prelude.{◌≡◌, ◌≢◌, [], ◌∷◌, length, Some, None, MatchResult};
 ghost use Rattle.std.specs.Str.{IsUtf8};
-ghost use Rattle.tp_c.specs.Editing.{Edits, EditsSplices, AsksNoEdit, splice_of};
+ghost use Rattle.tp_c.specs.Editing.{EditsFlatSplices, EditsSplices, AsksNoEdit, splice_of};
 ghost use Rattle.tp_c.specs.Flat.{AreSplices};
 ghost use Rattle.tp_c.specs.declared.status.TheConstants.{DOC_OUT_OF_MEMORY as DOCUMENT, PEER_OUT_OF_MEMORY as PEER};
 
@@ -62,7 +62,7 @@ fn edit_flat(
     memory: u32,
 ) -> u32
     requires { memory ≢ 0 }
-    ensures { Edits memory editor.old actor flat.now texts.now time message.now result editor.new }
+    ensures { EditsFlatSplices memory editor.old actor flat.now texts.now time message.now result editor.new }
 {
     match read_edit(alloc, flat, texts, message, memory) {
         Ok((splices, message)) => edit_splices(editor, actor, &splices, time, message, memory),
@@ -92,7 +92,7 @@ pub extern "C" fn tp_edit(
     message: &[u8],
     len: &mut usize,
 ) -> u32
-    ensures done { Edits DOCUMENT handle.old.editor (Some (record { 0 = actor.now }))
+    ensures done { EditsFlatSplices DOCUMENT handle.old.editor (Some (record { 0 = actor.now }))
         (splice_of at del text.now ∷ []) text.now time message.now result handle.new.editor }
     ensures len { len.new ≡ length handle.new.editor.answer }
 {
@@ -121,7 +121,7 @@ pub extern "C" fn tp_edit_many(
     message: &[u8],
     len: &mut usize,
 ) -> u32
-    ensures done { Edits DOCUMENT handle.old.editor (Some (record { 0 = actor.now }))
+    ensures done { EditsFlatSplices DOCUMENT handle.old.editor (Some (record { 0 = actor.now }))
         splices.now texts.now time message.now result handle.new.editor }
     ensures len { len.new ≡ length handle.new.editor.answer }
 {
@@ -145,7 +145,7 @@ pub extern "C" fn tp_shared_edit(
     message: &[u8],
     len: &mut usize,
 ) -> u32
-    ensures done { Edits PEER handle.old.editor None (splice_of at del text.now ∷ []) text.now time
+    ensures done { EditsFlatSplices PEER handle.old.editor None (splice_of at del text.now ∷ []) text.now time
         message.now result handle.new.editor }
     ensures len { len.new ≡ length handle.new.editor.answer }
 {
@@ -168,7 +168,7 @@ pub extern "C" fn tp_shared_edit_many(
     message: &[u8],
     len: &mut usize,
 ) -> u32
-    ensures done { Edits PEER handle.old.editor None splices.now texts.now time message.now result
+    ensures done { EditsFlatSplices PEER handle.old.editor None splices.now texts.now time message.now result
         handle.new.editor }
     ensures len { len.new ≡ length handle.new.editor.answer }
 {

@@ -22,9 +22,9 @@ pub struct Handle {
 }
 
 impl Model for Handle {
-    ghost use Rattle.tp_c.specs.Owned.{owned};
+    ghost use Rattle.tp_c.specs.Owned.{editor_owned};
 
-    ghost also_owns = { λ h. owned h.alloc h.at h.editor };
+    ghost also_owns = { λ h. editor_owned h.alloc h.at h.editor };
 }
 
 impl Handle {

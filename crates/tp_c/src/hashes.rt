@@ -29,12 +29,12 @@ pub(crate) fn hashes_of(alloc: Global, bytes: &[u8]) -> Result<Vec<Hash>, u32>
 {
     let mut hashes = Vec::new(alloc);
     let mut rest = bytes;
-    while let Some((hash, behind)) = rest.split_first_chunk::<HASH_LEN>() {
+    while let Some((hash, beyond)) = rest.split_first_chunk::<HASH_LEN>() {
         match hashes.push(Hash(*hash)) {
             Ok(()) => {}
             Err(_) => return Err(DOC_OUT_OF_MEMORY),
         }
-        rest = behind;
+        rest = beyond;
     }
     if rest.is_empty() {
         Ok(hashes)

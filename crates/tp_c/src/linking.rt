@@ -1,6 +1,6 @@
 //! Links to other peers, and messages on them.
 
-ghost use Rattle.tp_c.specs.Linking.{Asks, Opens, ReceivesBytes};
+ghost use Rattle.tp_c.specs.Linking.{GeneratesOnLink, OpensLink, ReceivesBytes};
 
 use crate::handle::Handle;
 use crate::status::{
@@ -13,7 +13,7 @@ use tp_journal::OptionalJournal;
 /// which links are opened. Answers 504 where 1,022 are: nothing is written then.
 #[unsafe(no_mangle)]
 pub extern "C" fn tp_link(handle: &mut Handle, link: &mut usize) -> u32
-    ensures { Opens handle.old.editor result link.old link.new handle.new.editor }
+    ensures { OpensLink handle.old.editor result link.old link.new handle.new.editor }
 {
     match handle.editor_mut().open_link() {
         Ok(number) => {
@@ -26,7 +26,7 @@ pub extern "C" fn tp_link(handle: &mut Handle, link: &mut usize) -> u32
 
 // Makes the next message on the link, and tells how long it is.
 fn generate_on(editor: &mut Editor<OptionalJournal>, link: usize, len: &mut usize) -> u32
-    ensures { Asks editor.old link result len.new editor.new }
+    ensures { GeneratesOnLink editor.old link result len.new editor.new }
 {
     let answered = editor.generate(link);
     *len = match &answered {
@@ -43,7 +43,7 @@ fn generate_on(editor: &mut Editor<OptionalJournal>, link: usize, len: &mut usiz
 /// device failed and 503 where it had.
 #[unsafe(no_mangle)]
 pub extern "C" fn tp_generate(handle: &mut Handle, link: usize, len: &mut usize) -> u32
-    ensures { Asks handle.old.editor link result len.new handle.new.editor }
+    ensures { GeneratesOnLink handle.old.editor link result len.new handle.new.editor }
 {
     generate_on(handle.editor_mut(), link, len)
 }

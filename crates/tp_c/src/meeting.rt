@@ -2,7 +2,7 @@
 
 ghost use Rattle.std.specs.Prelude.{◌≡◌, length, None};
 ghost use Rattle.tp_c.specs.Meeting as meeting;
-ghost use Rattle.tp_c.specs.Meeting.{Began, Fed};
+ghost use Rattle.tp_c.specs.Meeting.{Began, IsFed};
 
 use crate::handle::Handle;
 use crate::status::number_of_session;
@@ -49,7 +49,7 @@ pub extern "C" fn tp_shared_begin(handle: &mut Handle, role: u32, len: &mut usiz
 
 // Feeds the editor bytes, writes 1 to `going` where the session goes on and else 0, and gives the status.
 fn feed(editor: &mut Editor<OptionalJournal>, bytes: &[u8], going: &mut u32) -> u32
-    ensures { Fed editor.old bytes.now result going.new editor.new }
+    ensures { IsFed editor.old bytes.now result going.new editor.new }
 {
     match editor.feed(bytes) {
         Ok(false) => {
@@ -80,14 +80,14 @@ pub extern "C" fn tp_shared_feed(
     going: &mut u32,
     entered: &mut u64,
 ) -> u32
-    ensures fed { Fed handle.old.editor bytes.now result going.new handle.new.editor }
+    ensures fed { IsFed handle.old.editor bytes.now result going.new handle.new.editor }
     ensures len { len.new ≡ length handle.new.editor.answer }
     ensures entered { entered.new ≡ handle.new.editor.entered }
 {
     let editor = handle.editor_mut();
     let status = feed(editor, bytes, going);
     *len = editor.answer().len();
-    *entered = editor.entered();
+    *entered = editor.entered_count();
     status
 }
 

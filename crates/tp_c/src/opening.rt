@@ -69,7 +69,7 @@ pub extern "C" fn tp_shared_open(
     slot: &mut Slot,
 ) -> u32
     ensures { RefusesPath path.now result slot.old slot.new
-        ⊎ PutsBy (editor.Opens (record { 0 = actor.now })) (editor.NotOpened (record { 0 = actor.now }))
+        ⊎ PutsBy (editor.Opens (record { 0 = actor.now })) (editor.RefusesOpening (record { 0 = actor.now }))
         result slot.old slot.new }
 {
     match from_utf8(path) {
@@ -89,8 +89,8 @@ pub extern "C" fn tp_shared_create(
     slot: &mut Slot,
 ) -> u32
     ensures { RefusesPath path.now result slot.old slot.new
-        ⊎ PutsBy (editor.Begins (record { 0 = id.now }) (record { 0 = actor.now }))
-        (editor.NotBegun (record { 0 = id.now })) result slot.old slot.new }
+        ⊎ PutsBy (editor.BeginsDocument (record { 0 = id.now }) (record { 0 = actor.now }))
+        (editor.RefusesNewDocument (record { 0 = id.now })) result slot.old slot.new }
 {
     match from_utf8(path) {
         Ok(path) => put_opened(

@@ -2,8 +2,8 @@
 
 ghost use Rattle.std.specs.Prelude.{◌≡◌, ◌++◌, length, min, take, drop};
 ghost use Rattle.tp_document.specs.Common.{chars, IsTextOf};
-ghost use Rattle.tp_document.specs.Showing.{HasLength};
-ghost use Rattle.tp_graph.specs.Heads as head;
+ghost use Rattle.tp_snapshot.specs.Showing.{HasLength};
+ghost use Rattle.tp_history.specs.Heads as head;
 ghost use Rattle.tp_c.specs.Heads.{hash_bytes};
 ghost use Rattle.tp_c.specs.Reading.{OnlyAnswers};
 ghost use Rattle.tp_c.specs.Status.{IsDoneUnless};

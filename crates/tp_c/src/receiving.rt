@@ -1,7 +1,7 @@
 //! Changes of others.
 
 ghost use Rattle.std.specs.Prelude.{◌≡◌};
-ghost use Rattle.tp_c.specs.Receiving.{Applies, AppliesChange, Merges};
+ghost use Rattle.tp_c.specs.Receiving.{Applies, AppliesChange, MergesEditor};
 
 use crate::handle::Handle;
 use crate::status::{DOC_OUT_OF_MEMORY, peer_status};
@@ -43,7 +43,7 @@ pub extern "C" fn tp_apply(alloc: Global, handle: &mut Handle, bytes: &[u8]) -> 
 
 // Merges, and gives the status.
 fn merge_from(editor: &mut Editor<OptionalJournal>, other: &Editor<OptionalJournal>) -> u32
-    ensures { Merges editor.old other.now result editor.new }
+    ensures { MergesEditor editor.old other.now result editor.new }
 {
     let answered = editor.merge(other);
     peer_status(&answered, DOC_OUT_OF_MEMORY)
@@ -56,7 +56,7 @@ fn merge_from(editor: &mut Editor<OptionalJournal>, other: &Editor<OptionalJourn
 /// device failed and 503 where that of either had.
 #[unsafe(no_mangle)]
 pub extern "C" fn tp_merge(handle: &mut Handle, other: &mut Handle) -> u32
-    ensures merges { Merges handle.old.editor other.old.editor result handle.new.editor }
+    ensures merges { MergesEditor handle.old.editor other.old.editor result handle.new.editor }
     ensures other { other.new.editor ≡ other.old.editor }
 {
     merge_from(handle.editor_mut(), other.editor_mut())

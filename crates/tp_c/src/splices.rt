@@ -21,7 +21,7 @@ pub struct FlatSplice {
     pub len: usize,
 }
 
-// Whether the texts have so many bytes together.
+// Whether the texts have `len` bytes together.
 fn adds_up(flat: &[FlatSplice], len: usize) -> bool
     ensures { IsTrue result ↔ (texts_len flat.now ≡ len) }
 {

@@ -13,9 +13,10 @@ use Rattle.tp_opid.specs.Same.{id_eq}
 use Rattle.tp_opid.proofs.Orders.{id_eq-same, id_eq-itself}
 use Rattle.tp_change.specs.declared.op.Op.{Op}
 use Rattle.tp_change.specs.declared.op.Op.TheVariants as op_of
-use Rattle.tp_change.specs.declared.record.Record.{Record}
-use Rattle.tp_change.specs.declared.parts.ChangeParts.{ChangeParts}
-use Rattle.tp_change.specs.Operations.{ops_of, ops_from, ops_in, count_in, count_of, op_count}
+use Rattle.tp_layout.specs.declared.record.Record.{Record}
+use Rattle.tp_layout.specs.declared.parts.ChangeParts.{ChangeParts}
+use Rattle.tp_change.specs.Operations.{ops_of, ops_from, ops_in, op_count}
+use Rattle.tp_layout.specs.Counts.{count_in, count_of}
 use Rattle.tp_change.specs.Elements.{element, inserts_in, inserts, is_inserted, is_reference, refers, deletes_in, deletes, later, next_counter}
 
 pub inserts_in-append : (xs ys : List Op) → inserts_in (xs ++ ys) ≡ inserts_in xs ++ inserts_in ys

@@ -1,14 +1,4 @@
-pub mod Utf8Tests
-pub mod Refusals
-pub mod OneLaws
-pub mod ChangeFields
-pub mod WholeChange
-pub mod Blame
-pub mod RunLaws
-pub mod SpellingLaws
-pub mod Counts
-pub mod PutsLaws
-pub mod Lengths
+pub mod HashLaws
 pub mod OpsBegin
 pub mod ValidatedSteps
 pub mod ValidatedLaws

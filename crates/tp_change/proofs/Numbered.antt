@@ -8,10 +8,11 @@ use Rattle.tp_opid.specs.declared.op_id.Place.TheVariants.{After}
 use Rattle.tp_opid.specs.Insert as element_of
 use Rattle.tp_change.specs.declared.op.Op.{Op}
 use Rattle.tp_change.specs.declared.op.Op.TheVariants as op_of
-use Rattle.tp_change.specs.declared.record.Record.{Record}
-use Rattle.tp_change.specs.declared.record.Record.TheVariants.{Insert, Delete, DeleteRun}
-use Rattle.tp_change.specs.declared.parts.ChangeParts.{ChangeParts}
-use Rattle.tp_change.specs.Operations.{ops_of, ops_from, ops_in, run, deletes_from, id_of, count_in, op_count}
+use Rattle.tp_layout.specs.declared.record.Record.{Record}
+use Rattle.tp_layout.specs.declared.record.Record.TheVariants.{Insert, Delete, DeleteRun}
+use Rattle.tp_layout.specs.declared.parts.ChangeParts.{ChangeParts}
+use Rattle.tp_change.specs.Operations.{ops_of, ops_from, ops_in, run, deletes_from, id_of, op_count}
+use Rattle.tp_layout.specs.Counts.{count_in}
 use Rattle.tp_change.specs.Elements.{element, inserts_in}
 use Rattle.tp_change.proofs.OpsLaws.{length-ops_of}
 

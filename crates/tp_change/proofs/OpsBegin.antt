@@ -6,10 +6,11 @@ use Rattle.std.proofs.lemmas.Str.{chars-nil}
 use Rattle.tp_opid.specs.declared.op_id.OpId.{OpId}
 use Rattle.tp_opid.specs.declared.op_id.Place.{Place}
 use Rattle.tp_change.specs.declared.ops.Walk.{Walk}
-use Rattle.tp_change.specs.declared.record.Record.{Record}
-use Rattle.tp_change.specs.declared.parts.ChangeParts.{ChangeParts}
-use Rattle.tp_change.specs.Operations.{count_of, run, deletes_from, ops_from, ops_of}
-use Rattle.tp_change.specs.Limits.{IsRecord, IsChange}
+use Rattle.tp_layout.specs.declared.record.Record.{Record}
+use Rattle.tp_layout.specs.declared.parts.ChangeParts.{ChangeParts}
+use Rattle.tp_layout.specs.Counts.{count_of}
+use Rattle.tp_change.specs.Operations.{run, deletes_from, ops_from, ops_of}
+use Rattle.tp_layout.specs.Limits.{IsRecord, IsChange}
 use Rattle.tp_change.specs.OpsLeft.{IsWalk}
 
 -- before the first record all operations are left

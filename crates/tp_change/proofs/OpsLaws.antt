@@ -10,10 +10,11 @@ use Rattle.tp_opid.specs.declared.op_id.Place.TheVariants.{After}
 use Rattle.tp_opid.specs.Order.{id_cmp}
 use Rattle.tp_opid.proofs.Orders.{id_cmp-counter}
 use Rattle.tp_change.specs.declared.op.Op.{Op}
-use Rattle.tp_change.specs.declared.record.Record.{Record}
-use Rattle.tp_change.specs.declared.record.Record.TheVariants as record_of
-use Rattle.tp_change.specs.declared.parts.ChangeParts.{ChangeParts}
-use Rattle.tp_change.specs.Operations.{count_in, count_of, id_of, run, deletes_from, ops_in, ops_from, ops_of, op_count}
+use Rattle.tp_layout.specs.declared.record.Record.{Record}
+use Rattle.tp_layout.specs.declared.record.Record.TheVariants as record_of
+use Rattle.tp_layout.specs.declared.parts.ChangeParts.{ChangeParts}
+use Rattle.tp_layout.specs.Counts.{count_in, count_of}
+use Rattle.tp_change.specs.Operations.{id_of, run, deletes_from, ops_in, ops_from, ops_of, op_count}
 use Rattle.tp_change.specs.OpIds.{op_id, ids_from}
 
 -- ---- the identifiers, as a list
@@ -84,11 +85,11 @@ get_or-ids_from a n (suc k) (suc j) d lt =
 
 -- ---- in order
 
--- of one actor's identifiers the one with the lower counter stands below
+-- of one actor's identifiers the one with the lower counter is below
 id_below : (a : Actor) (n m : ℕ) → n < m → id_cmp (id_of a n) (id_of a m) ≡ Less
 id_below a n m lt = id_cmp-counter (id_of a n) (id_of a m) lt
 
--- an identifier stands below those in a row after it
+-- an identifier is below those in a row after it
 ids_below : (a : Actor) (n m k : ℕ) → n < m → IsBelowAll id_cmp (id_of a n) (ids_from a m k)
 ids_below a n m zero lt = tt
 ids_below a n m (suc k) lt = (id_below a n m lt, ids_below a n (m + 1) k (omega arith))
@@ -98,6 +99,6 @@ ids_rise : (a : Actor) (n k : ℕ) → IsRising id_cmp (ids_from a n k)
 ids_rise a n zero = tt
 ids_rise a n (suc k) = (ids_below a n (n + 1) k (omega arith), ids_rise a (n + 1) k)
 
--- the identifiers rise: each stands below all that come after it
+-- the identifiers rise: each is below all that come after it
 pub ops_rise : (c : ChangeParts) → IsRising id_cmp (map op_id (ops_of c))
 ops_rise c = subst (IsRising id_cmp) (sym (ids-ops_of c)) (ids_rise c.actor c.start (op_count c))

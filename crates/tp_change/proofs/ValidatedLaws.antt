@@ -11,18 +11,18 @@ use Rattle.tp_list.proofs.RisingLaws.{less_of, IsBelowAll-trans}
 use Rattle.tp_opid.specs.declared.hash.Hash.{Hash}
 use Rattle.tp_opid.specs.Order.{hash_cmp}
 use Rattle.tp_opid.proofs.Orders.{hash_total}
-use Rattle.tp_change.specs.declared.error.ChangeError.{ChangeError}
-use Rattle.tp_change.specs.declared.limits.TheConstants.{MAX_BYTES, MAX_OPS, MAX_DEPS, MAX_MESSAGE_BYTES, COUNTERS_END}
-use Rattle.tp_change.specs.declared.error.ChangeError.TheVariants.{Limit, ZeroSeqOrStart, DepsOrder, NoRecords, EmptyRun, OutOfMemory}
-use Rattle.tp_change.specs.declared.record.Record.{Record}
-use Rattle.tp_change.specs.declared.record.Record.TheVariants.{Insert, Delete, DeleteRun}
-use Rattle.tp_change.specs.declared.parts.ChangeParts.{ChangeParts}
-use Rattle.tp_change.specs.Operations.{count_in, count_of}
-use Rattle.tp_change.specs.Spelling.{spelling, spelling_of_record, spelling_of_place}
-use Rattle.tp_change.specs.Limits.{IsRecord, IsTypedRecord, IsTyped, IsChange}
-use Rattle.tp_change.specs.Validated.{is_fault_of_parts, unless, ◌and_then◌, is_above, rises_after, validated_deps, fewest_in, has_targets_within, validated_record, validated_records, validated_numbers, validated_list, validated}
-use Rattle.tp_change.proofs.Counts.{length-le-count_of}
-use Rattle.tp_change.proofs.Lengths.{length_spelling}
+use Rattle.tp_layout.specs.declared.error.ChangeError.{ChangeError}
+use Rattle.tp_layout.specs.declared.limits.TheConstants.{MAX_BYTES, MAX_OPS, MAX_DEPS, MAX_MESSAGE_BYTES, COUNTERS_END}
+use Rattle.tp_layout.specs.declared.error.ChangeError.TheVariants.{Limit, ZeroSeqOrStart, DepsOrder, NoRecords, EmptyRun, OutOfMemory}
+use Rattle.tp_layout.specs.declared.record.Record.{Record}
+use Rattle.tp_layout.specs.declared.record.Record.TheVariants.{Insert, Delete, DeleteRun}
+use Rattle.tp_layout.specs.declared.parts.ChangeParts.{ChangeParts}
+use Rattle.tp_layout.specs.Counts.{count_in, count_of}
+use Rattle.tp_layout.specs.Spelling.{spelling, spelling_of_record, spelling_of_place}
+use Rattle.tp_layout.specs.Limits.{IsRecord, IsTypedRecord, IsTyped, IsChange}
+use Rattle.tp_change.specs.Validated.{is_fault_of_parts, unless, ◌and_then◌, is_above, rises_after, validated_deps, fewest_in, has_targets_within, validated_record, validated_records, validated_numbers, validated_list, validated_parts}
+use Rattle.tp_layout.proofs.Counts.{length-le-count_of}
+use Rattle.tp_layout.proofs.Lengths.{length_spelling}
 
 -- a test that gave no fault holds
 unless_ok : (b : Bool) (e : ChangeError) → unless b e ≡ Ok tt → b ≡ true
@@ -44,7 +44,7 @@ fine b e h = ap (λ x. unless x e) h
 
 -- ---- rising hashes
 
--- hashes that were found to rise after g rise, and stand above it
+-- hashes that were found to rise after g rise, and are above it
 rising_after : (g : Hash) (hs : List Hash) → rises_after (Some g) hs ≡ true → IsBelowAll hash_cmp g hs × IsRising hash_cmp hs
 rising_after g [] e = (tt, tt)
 rising_after g (h ∷ hs) e =
@@ -164,8 +164,8 @@ parts_of c typed size numbers message deps list =
     }
 
 -- typed parts without a fault are a change
-pub change_of : (c : ChangeParts) → IsTyped c → validated c ≡ Ok tt → IsChange c
-unfolding validated
+pub change_of : (c : ChangeParts) → IsTyped c → validated_parts c ≡ Ok tt → IsChange c
+unfolding validated_parts
 change_of c typed h =
     let size = and_ok _ _ h in
     let numbers = and_ok _ _ size.1 in
@@ -174,8 +174,8 @@ change_of c typed h =
     parts_of c typed size.0 numbers.0 message.0 deps.0 deps.1
 
 -- a change has no fault
-pub ok_change : (c : ChangeParts) → IsChange c → validated c ≡ Ok tt
-unfolding validated
+pub ok_change : (c : ChangeParts) → IsChange c → validated_parts c ≡ Ok tt
+unfolding validated_parts
 ok_change c h =
     let few = length-le-count_of c.records h.records in
     let one : 1 ≤ count_of c.records = omega (arith, h.records_some) in
@@ -189,7 +189,7 @@ ok_change c h =
     ok_and _ _ (fine _ _ (le-leb (length (spelling c)) 4194304 h.size)) (ok_and _ _ numbers (ok_and _ _ (fine _ _ (le-leb (length (encode_utf8_all c.message)) 65535 h.message.bytes)) (ok_and _ _ deps list)))
 
 -- what was validated to be without a fault is a change
-pub on_change : (c : ChangeParts) (r : Result (Unit {0}) ChangeError) → r ≡ validated c → OnOk r (IsTyped c) → OnOk r (IsChange c)
+pub on_change : (c : ChangeParts) (r : Result (Unit {0}) ChangeError) → r ≡ validated_parts c → OnOk r (IsTyped c) → OnOk r (IsChange c)
 on_change c (Ok tt) e typed = change_of c typed (sym e)
 on_change c (Err _) e typed = tt
 
@@ -234,8 +234,8 @@ of_numbers seq start =
     of_unless (nat_lt 0 seq) ZeroSeqOrStart (unless (nat_lt 0 start) ZeroSeqOrStart and_then top) refl
     (of_unless (nat_lt 0 start) ZeroSeqOrStart top refl (of_last (nat_lt start COUNTERS_END) Limit refl))
 
-of_parts : (c : ChangeParts) → OfParts (validated c)
-unfolding validated
+of_parts : (c : ChangeParts) → OfParts (validated_parts c)
+unfolding validated_parts
 of_parts c =
     let list = validated_list c.start c.records in
     let deps = validated_deps c.deps and_then list in
@@ -246,13 +246,13 @@ of_parts c =
     (of_unless short Limit deps refl (of_and (validated_deps c.deps) list (of_deps c.deps) (of_list c.start c.records))))
 
 -- what is refused is refused for a fault that parts can have
-pub faults_of_parts : (c : ChangeParts) (r : Result (Unit {0}) ChangeError) → r ≡ validated c → IfErr r (λ e. IsTrue (is_fault_of_parts e))
+pub faults_of_parts : (c : ChangeParts) (r : Result (Unit {0}) ChangeError) → r ≡ validated_parts c → IfErr r (λ e. IsTrue (is_fault_of_parts e))
 faults_of_parts c r h = rw h (of_parts c)
 
 memory_is_none : (e : ChangeError) → is_fault_of_parts e ≡ true → e ≡ OutOfMemory → ⊥
 memory_is_none e h same = let wrong : is_fault_of_parts e ≡ false = ap is_fault_of_parts same in cc
 
 -- no fault of parts is want of memory
-pub never_memory : (c : ChangeParts) (r : Result (Unit {0}) ChangeError) → r ≡ validated c → IfErr r (λ e. e ≡ OutOfMemory → ⊥)
+pub never_memory : (c : ChangeParts) (r : Result (Unit {0}) ChangeError) → r ≡ validated_parts c → IfErr r (λ e. e ≡ OutOfMemory → ⊥)
 never_memory c (Ok tt) h = tt
 never_memory c (Err e) h = memory_is_none e (faults_of_parts c (Err e) h)

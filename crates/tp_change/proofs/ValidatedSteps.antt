@@ -2,11 +2,11 @@
 use Rattle.std.proofs.Common.{◌≡◌, ℕ, ◌+◌, ◌-◌, ◌<◌, true, ◌&&◌, List, ◌∷◌, length, get_or, drop, Option, Some, Ok, sym, ap, ◌∙◌}
 use Rattle.std.proofs.lemmas.List.{at_drop_more}
 use Rattle.tp_opid.specs.declared.hash.Hash.{Hash}
-use Rattle.tp_change.specs.declared.record.Record.{Record}
-use Rattle.tp_change.specs.Operations.{count_in}
+use Rattle.tp_layout.specs.declared.record.Record.{Record}
+use Rattle.tp_layout.specs.Counts.{count_in}
 use Rattle.tp_change.specs.Validated.{is_above, rises_after, ◌and_then◌, validated_record, validated_records}
 
--- a hash that stands above the one before it leaves the validation to those after it
+-- a hash that is above the one before it leaves the validation to those after it
 pub rises_step : (before : Option Hash) (hs : List Hash) (i : ℕ) (d : Hash) → i < length hs → is_above before (get_or hs i d) ≡ true → rises_after (Some (get_or hs i d)) (drop (i + 1) hs) ≡ rises_after before (drop i hs)
 rises_step before hs i d lt h =
     sym (at_drop_more (rises_after before) hs i d lt ∙ ap (λ b. b && rises_after (Some (get_or hs i d)) (drop (i + 1) hs)) h)

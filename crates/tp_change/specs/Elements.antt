@@ -1,5 +1,5 @@
 -- The elements that changes insert and delete, whether references and targets are among them, and the counters.
-use Rattle.std.specs.Prelude.{ℕ, ◌+◌, cond, nat_lt, List, [], ◌∷◌, ◌++◌, Bool, true, false, ◌||◌, ◌&&◌}
+use Rattle.std.specs.Prelude.{ℕ, ◌+◌, if◌then◌else◌, nat_lt, List, [], ◌∷◌, ◌++◌, Bool, true, false, ◌||◌, ◌&&◌}
 use Rattle.tp_opid.specs.declared.op_id.OpId.{OpId}
 use Rattle.tp_opid.specs.declared.op_id.Place.{Place}
 use Rattle.tp_opid.specs.declared.op_id.Place.TheVariants.{Start, After}
@@ -7,7 +7,7 @@ use Rattle.tp_opid.specs.Insert.{Insert}
 use Rattle.tp_opid.specs.Same.{id_eq}
 use Rattle.tp_change.specs.declared.op.Op.{Op}
 use Rattle.tp_change.specs.declared.op.Op.TheVariants as op_of
-use Rattle.tp_change.specs.declared.parts.ChangeParts.{ChangeParts}
+use Rattle.tp_layout.specs.declared.parts.ChangeParts.{ChangeParts}
 use Rattle.tp_change.specs.Operations.{ops_of, op_count}
 
 -- the insert as an element of the sequence
@@ -54,7 +54,7 @@ refers S (op_of.Delete id target ∷ ops) = is_inserted S target && refers S ops
 
 -- the greater of two numbers
 abbrev pub later : ℕ → ℕ → ℕ
-later a b = cond (nat_lt a b) b a
+later a b = if nat_lt a b then b else a
 
 -- 1 plus the greatest counter of the changes, or 1 where there is none
 abbrev pub next_counter : List ChangeParts → ℕ

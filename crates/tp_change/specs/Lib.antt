@@ -1,15 +1,7 @@
-pub mod ChangeError
 pub mod ChangeHash
 pub mod Elements
-pub mod Faults
 pub mod Gathered
-pub mod Gives
 pub mod Validated
-pub mod Kept
-pub mod Limits
 pub mod OpIds
 pub mod Operations
 pub mod OpsLeft
-pub mod Puts
-pub mod Reading
-pub mod Spelling

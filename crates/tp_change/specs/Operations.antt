@@ -1,37 +1,27 @@
 -- The operations of a change (Automerge's operation identifiers: a counter and an actor).
-use Rattle.std.specs.Prelude.{ℕ, zero, suc, ◌+◌, List, [], ◌∷◌, ◌++◌, length}
+use Rattle.std.specs.Prelude.{ℕ, zero, suc, ◌+◌, List, [], ◌∷◌, ◌++◌}
 use Rattle.tp_opid.specs.declared.actor.Actor.{Actor}
 use Rattle.tp_opid.specs.declared.op_id.OpId.{OpId}
 use Rattle.tp_opid.specs.declared.op_id.Place.{Place}
 use Rattle.tp_opid.specs.declared.op_id.Place.TheVariants.{After}
-use Rattle.tp_change.specs.declared.record.Record.{Record}
-use Rattle.tp_change.specs.declared.record.Record.TheVariants as record_of
+use Rattle.tp_layout.specs.declared.record.Record.{Record}
+use Rattle.tp_layout.specs.declared.record.Record.TheVariants as record_of
 use Rattle.tp_change.specs.declared.op.Op.{Op}
 use Rattle.tp_change.specs.declared.op.Op.TheVariants as op_of
-use Rattle.tp_change.specs.declared.parts.ChangeParts.{ChangeParts}
-
--- how many operations a record is: one for each inserted character, one for each delete
-abbrev pub count_in : Record → ℕ
-count_in (record_of.Insert after text) = length text
-count_in (record_of.Delete target) = 1
-count_in (record_of.DeleteRun first count) = count
-
--- how many operations the records are
-abbrev pub count_of : List Record → ℕ
-count_of [] = 0
-count_of (r ∷ rs) = count_in r + count_of rs
+use Rattle.tp_layout.specs.declared.parts.ChangeParts.{ChangeParts}
+use Rattle.tp_layout.specs.Counts.{count_in, count_of}
 
 -- the identifier of an actor's operation
 abbrev pub id_of : Actor → ℕ → OpId
 id_of actor counter = record { counter = counter; actor = actor }
 
--- The inserts of a run whose first counter is n: the first character stands after the reference, each later one after
--- the one before it.
+-- The inserts of a run whose first counter is n: the first character is placed after the reference, each later one
+-- after the one before it.
 abbrev pub run : Actor → ℕ → Place → List ℕ → List Op
 run actor n after [] = []
 run actor n after (ch ∷ text) = op_of.Insert (id_of actor n) after ch ∷ run actor (n + 1) (After (id_of actor n)) text
 
--- So many deletes whose first counter is n: the first deletes the target, each later one the element of the same actor
+-- `count` deletes whose first counter is n: the first deletes the target, each later one the element of the same actor
 -- with the next counter.
 abbrev pub deletes_from : Actor → ℕ → OpId → ℕ → List Op
 deletes_from actor n target zero = []

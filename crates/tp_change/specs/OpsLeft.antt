@@ -2,11 +2,12 @@
 use Rattle.std.specs.Prelude.{◌+◌, ◌≤◌, List, ◌++◌, length}
 use Rattle.std.specs.List.{AllByRecursion}
 use Rattle.std.specs.Str.{chars}
-use Rattle.tp_change.specs.declared.limits.TheConstants.{COUNTERS_END}
+use Rattle.tp_layout.specs.declared.limits.TheConstants.{COUNTERS_END}
 use Rattle.tp_change.specs.declared.op.Op.{Op}
 use Rattle.tp_change.specs.declared.ops.Walk.{Walk}
-use Rattle.tp_change.specs.Operations.{count_of, run, deletes_from, ops_from}
-use Rattle.tp_change.specs.Limits.{IsRecord}
+use Rattle.tp_layout.specs.Counts.{count_of}
+use Rattle.tp_change.specs.Operations.{run, deletes_from, ops_from}
+use Rattle.tp_layout.specs.Limits.{IsRecord}
 
 -- those of the text that the walk is in, then those of its run of deletes, then those of the records after it
 abbrev pub ops_left : Walk → List Op

@@ -3,14 +3,14 @@ use Rattle.std.specs.Prelude.{ℕ, ◌+◌, ◌-◌, ◌&&◌, nat_le, nat_lt, m
 use Rattle.std.specs.Ordering.{is_lt}
 use Rattle.tp_opid.specs.declared.hash.Hash.{Hash}
 use Rattle.tp_opid.specs.Order.{hash_cmp}
-use Rattle.tp_change.specs.declared.limits.TheConstants.{MAX_BYTES, MAX_OPS, MAX_DEPS, MAX_MESSAGE_BYTES, COUNTERS_END}
-use Rattle.tp_change.specs.declared.error.ChangeError.{ChangeError}
-use Rattle.tp_change.specs.declared.error.ChangeError.TheVariants.{ZeroSeqOrStart, DepsOrder, NoRecords, EmptyRun, Limit}
-use Rattle.tp_change.specs.declared.record.Record.{Record}
-use Rattle.tp_change.specs.declared.record.Record.TheVariants.{Insert, Delete, DeleteRun}
-use Rattle.tp_change.specs.declared.parts.ChangeParts.{ChangeParts}
-use Rattle.tp_change.specs.Operations.{count_in}
-use Rattle.tp_change.specs.Spelling.{spelling}
+use Rattle.tp_layout.specs.declared.limits.TheConstants.{MAX_BYTES, MAX_OPS, MAX_DEPS, MAX_MESSAGE_BYTES, COUNTERS_END}
+use Rattle.tp_layout.specs.declared.error.ChangeError.{ChangeError}
+use Rattle.tp_layout.specs.declared.error.ChangeError.TheVariants.{ZeroSeqOrStart, DepsOrder, NoRecords, EmptyRun, Limit}
+use Rattle.tp_layout.specs.declared.record.Record.{Record}
+use Rattle.tp_layout.specs.declared.record.Record.TheVariants.{Insert, Delete, DeleteRun}
+use Rattle.tp_layout.specs.declared.parts.ChangeParts.{ChangeParts}
+use Rattle.tp_layout.specs.Counts.{count_in}
+use Rattle.tp_layout.specs.Spelling.{spelling}
 
 -- the faults that the parts of a change can have
 abbrev pub is_fault_of_parts : ChangeError → Bool
@@ -31,12 +31,12 @@ abbrev pub ◌and_then◌ : Result (Unit {0}) ChangeError → Result (Unit {0}) 
 (Ok _) and_then rest = rest
 (Err e) and_then rest = Err e
 
--- h stands above the hash before it, if there is one
+-- h is above the hash before it, if there is one
 abbrev pub is_above : Option Hash → Hash → Bool
 is_above None h = true
 is_above (Some g) h = is_lt (hash_cmp g h)
 
--- each hash stands above the one before it
+-- each hash is above the one before it
 abbrev pub rises_after : Option Hash → List Hash → Bool
 rises_after before [] = true
 rises_after before (h ∷ hs) = is_above before h && rises_after (Some h) hs
@@ -76,8 +76,8 @@ abbrev pub validated_list : ℕ → List Record → Result (Unit {0}) ChangeErro
 validated_list start rs = unless (nat_lt 0 (length rs)) NoRecords and_then unless (nat_le (length rs) MAX_OPS) Limit and_then validated_records (min (COUNTERS_END - start) MAX_OPS) rs
 
 -- the fault of the parts of a change
-unfoldable pub validated : ChangeParts → Result (Unit {0}) ChangeError
-validated c =
+unfoldable pub validated_parts : ChangeParts → Result (Unit {0}) ChangeError
+validated_parts c =
     unless (nat_le (length (spelling c)) MAX_BYTES) Limit and_then
     validated_numbers c.seq c.start and_then
     unless (nat_le (length (encode_utf8_all c.message)) MAX_MESSAGE_BYTES) Limit and_then

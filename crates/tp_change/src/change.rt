@@ -1,13 +1,13 @@
 //! A change within the limits, with its hash.
 
-ghost use Rattle.std.specs.Prelude.{◌≡◌};
+ghost use Rattle.std.specs.Prelude.{◌≡◌, IfOk, IsOkUnless};
 ghost use Rattle.std.specs.Str.{chars};
+ghost use Rattle.tp_layout.specs.declared.error.ChangeError.TheVariants.{OutOfMemory};
 
-use crate::body::Body;
-use crate::record::Record;
 use std::alloc::Global;
 use std::marker::Model;
 use std::mem::size_of;
+use tp_layout::{Body, ChangeError, Record};
 use tp_opid::{Actor, Hash};
 
 /// A change: parts that are within the limits and the grammar, with their hash.
@@ -31,8 +31,8 @@ impl Drop for Change {
 
 impl Model for Change {
     ghost use Rattle.std.specs.Prelude.{◌≡◌};
-    ghost use Rattle.tp_change.specs.declared.parts.ChangeParts.{ChangeParts};
-    ghost use Rattle.tp_change.specs.Limits.{IsChange};
+    ghost use Rattle.tp_layout.specs.declared.parts.ChangeParts.{ChangeParts};
+    ghost use Rattle.tp_layout.specs.Limits.{IsChange};
     ghost use Rattle.tp_change.specs.ChangeHash.{hash_of};
 
     ghost Value = { ChangeParts };
@@ -44,7 +44,7 @@ impl Model for Change {
 
 impl Change {
     ghost use Rattle.tp_change.specs.ChangeHash.{hash_of};
-    ghost use Rattle.tp_change.specs.Limits.{IsChange};
+    ghost use Rattle.tp_layout.specs.Limits.{IsChange};
 
     /// The hash: the SHA-256 of its bytes. It was taken when the change was made.
     pub fn hash(&self) -> Hash
@@ -101,6 +101,19 @@ impl Change {
         ensures { result.now ≡ self.now.records }
     {
         self.body.records()
+    }
+
+    /// An equal change, from the same allocator. Its hash is copied and not taken again. The only refusal is
+    /// `OutOfMemory`; the cost is that of copying the parts.
+    pub fn copy(&self) -> Result<Change, ChangeError>
+        ensures copied { IfOk result (λ copied. copied ≡ self.now) }
+        ensures err { IsOkUnless result OutOfMemory }
+    {
+        Ok(Change {
+            alloc: self.alloc,
+            body: self.body.copy(self.alloc)?,
+            hash: self.hash,
+        })
     }
 }
 

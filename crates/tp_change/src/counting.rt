@@ -1,12 +1,13 @@
 //! How many operations a change has.
 
 ghost use Rattle.std.specs.Prelude.{◌≡◌, ◌≤◌, ◌+◌};
-ghost use Rattle.tp_change.specs.declared.limits.TheConstants.{MAX_OPS};
-ghost use Rattle.tp_change.specs.Operations.{count_of, op_count};
+ghost use Rattle.tp_layout.specs.declared.limits.TheConstants.{MAX_OPS};
+ghost use Rattle.tp_layout.specs.Counts.{count_of};
+ghost use Rattle.tp_change.specs.Operations.{op_count};
 
 use crate::change::Change;
 use crate::facts::ops_in;
-use crate::record::Record;
+use tp_layout::Record;
 
 /// How many operations the records have together.
 fn count_ops(records: &[Record]) -> usize

@@ -1,10 +1,10 @@
 //! What the types of the parts always say of them: a Rust array has its length, and its elements are bytes.
 
 ghost use Rattle.std.specs.Prelude.{◌≡◌};
-ghost use Rattle.tp_change.specs.Limits.{IsId, IsPlace, IsTypedRecord};
-ghost use Rattle.tp_change.specs.Operations.{count_in};
+ghost use Rattle.tp_layout.specs.Limits.{IsId, IsPlace, IsTypedRecord};
+ghost use Rattle.tp_layout.specs.Counts.{count_in};
 
-use crate::record::Record;
+use tp_layout::Record;
 use tp_list::{array_len, char_count};
 use tp_opid::{OpId, Place};
 

@@ -4,9 +4,9 @@ ghost use Rattle.std.specs.Prelude.{◌≡◌, ℕ, ◌+◌, ◌≤◌, ◌++◌
 ghost use Rattle.tp_change.specs.Gathered.{HasGathered};
 ghost use Rattle.sha2.specs.Sha256.{sha256};
 
-use crate::sink::Sink;
 use sha2::{Digest, Sha256};
 use std::alloc::AllocError;
+use tp_layout::Sink;
 
 // How many bytes are gathered before they are hashed.
 const ROOM: usize = 256;

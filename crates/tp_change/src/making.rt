@@ -2,18 +2,15 @@
 
 ghost use Rattle.std.specs.Prelude.{◌≡◌, Ok, Err, IsOk, IsTrue, IfOk, IfErr, MatchResult};
 ghost use Rattle.tp_change.specs.ChangeHash.{hash_of};
-ghost use Rattle.tp_change.specs.Validated.{is_fault_of_parts, validated};
-ghost use Rattle.tp_change.specs.Limits.{IsChange};
-ghost use Rattle.tp_change.specs.declared.error.ChangeError.TheVariants.{OutOfMemory};
+ghost use Rattle.tp_change.specs.Validated.{is_fault_of_parts, validated_parts};
+ghost use Rattle.tp_layout.specs.Limits.{IsChange};
+ghost use Rattle.tp_layout.specs.declared.error.ChangeError.TheVariants.{OutOfMemory};
 
-use crate::body::Body;
 use crate::change::Change;
-use crate::error::ChangeError;
 use crate::gatherer::Gatherer;
-use crate::parts::ChangeParts;
 use crate::validating::validate;
-use crate::writing::put_change;
 use std::alloc::Global;
+use tp_layout::{Body, ChangeError, ChangeParts, put_change};
 use tp_opid::Hash;
 
 /// The hash of the parts, from their bytes as they come: no copy is made.
@@ -45,8 +42,8 @@ impl Change {
     pub fn new(alloc: Global, parts: ChangeParts) -> Result<Change, ChangeError>
         ensures made { IfOk result (λ c. (c ≡ parts) × IsChange c) }
         ensures only { IsChange parts → IsOk result }
-        ensures exact { MatchResult result (λ _. validated parts ≡ Ok tt)
-            (λ e. validated parts ≡ Err e) }
+        ensures exact { MatchResult result (λ _. validated_parts parts ≡ Ok tt)
+            (λ e. validated_parts parts ≡ Err e) }
         ensures faults { IfErr result (λ e. IsTrue (is_fault_of_parts e)) }
         ensures memory { IfErr result (λ e. e ≡ OutOfMemory → ⊥) }
     {

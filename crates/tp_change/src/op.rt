@@ -9,7 +9,7 @@ pub enum Op {
     Insert {
         /// The identifier of the operation, and of the element that it makes.
         id: OpId,
-        /// The reference: what the character stands after.
+        /// The reference: what the character is placed after.
         after: Place,
         /// The character, a Unicode scalar value.
         ch: char,

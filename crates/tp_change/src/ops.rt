@@ -3,14 +3,14 @@
 ghost use Rattle.std.specs.Prelude.{◌≡◌, ◌+◌, ◌<◌, ◌^◌, ◌∷◌, [], MatchOption};
 ghost use Rattle.std.specs.Iterator.{YieldsFirst, item_count};
 ghost use Rattle.std.specs.Str.{chars};
-ghost use Rattle.tp_change.specs.declared.limits.TheConstants.{COUNTERS_END};
+ghost use Rattle.tp_layout.specs.declared.limits.TheConstants.{COUNTERS_END};
 ghost use Rattle.tp_change.specs.Operations.{id_of, ops_of};
 ghost use Rattle.tp_change.specs.OpsLeft.{ops_left, IsWalk};
 
 use crate::change::Change;
 use crate::op::Op;
-use crate::record::Record;
 use std::marker::Model;
+use tp_layout::Record;
 use tp_opid::{Actor, OpId, Place};
 
 /// Where a walk is: in a run of characters, before the next one, then in a run of deletes, before the next target,
@@ -50,7 +50,7 @@ fn next_id(walk: &mut Walk) -> OpId
     id
 }
 
-/// The next insert of the run that the walk stands in.
+/// The next insert of the run that the walk is in.
 fn next_of_run(walk: &mut Walk) -> Option<Op>
     requires { IsWalk walk.old }
     ensures gives { MatchOption result ((chars walk.old.text.now ≡ []) × (walk.new ≡ walk.old))

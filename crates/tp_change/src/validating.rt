@@ -1,24 +1,21 @@
 //! What is wrong with the parts of a change.
 
-ghost use Rattle.std.specs.Prelude.{◌≡◌, ◌↔◌, ◌<◌, ◌^◌, ◌≤◌, IsTrue, OnOk, IfOk, IfErr, MatchResult, Ok, Err, List, length, true, nat_le, encode_utf8_all};
+ghost use Rattle.std.specs.Prelude.{◌≡◌, ◌<◌, ◌^◌, ◌≤◌, IsTrue, OnOk, IfOk, IfErr, MatchResult, Ok, Err, length, true, nat_le, encode_utf8_all};
 ghost use Rattle.std.specs.Str.{all_scalars};
-ghost use Rattle.tp_change.specs.declared.limits.TheConstants.{MAX_MESSAGE_BYTES, COUNTERS_END};
-ghost use Rattle.tp_change.specs.declared.error.ChangeError.TheVariants.{Limit, OutOfMemory};
+ghost use Rattle.tp_layout.specs.declared.limits.TheConstants.{MAX_MESSAGE_BYTES, COUNTERS_END};
+ghost use Rattle.tp_layout.specs.declared.error.ChangeError.TheVariants.{Limit, OutOfMemory};
 ghost use Rattle.std.specs.List.{All};
 ghost use Rattle.std.specs.declared.cmp.Ordering.TheVariants.{Less};
 ghost use Rattle.tp_opid.specs.Order.{hash_cmp};
-ghost use Rattle.tp_change.specs.Validated.{is_fault_of_parts, unless, is_above, validated_numbers, validated_list, validated_deps, validated_record, validated_records, validated, rises_after, fewest_in, has_targets_within};
-ghost use Rattle.tp_change.specs.Limits.{IsHash, IsChange, IsTypedRecord, IsTyped};
-ghost use Rattle.tp_change.specs.Operations.{count_in};
+ghost use Rattle.tp_change.specs.Validated.{is_fault_of_parts, unless, is_above, validated_numbers, validated_list, validated_deps, validated_record, validated_records, validated_parts, rises_after, fewest_in, has_targets_within};
+ghost use Rattle.tp_layout.specs.Limits.{IsHash, IsChange, IsTypedRecord, IsTyped};
+ghost use Rattle.tp_layout.specs.Counts.{count_in};
 
-use crate::body::Body;
-use crate::error::ChangeError;
 use crate::facts::ops_in;
-use crate::limits::{
-    COUNTERS_END, FEWEST_DELETES, MAX_BYTES, MAX_DEPS, MAX_MESSAGE_BYTES, MAX_OPS, are_counters,
+use tp_layout::{
+    Body, COUNTERS_END, ChangeError, FEWEST_DELETES, MAX_BYTES, MAX_DEPS, MAX_MESSAGE_BYTES,
+    MAX_OPS, Record, are_counters, body_len,
 };
-use crate::record::Record;
-use crate::size::body_len;
 use tp_list::array_len;
 use tp_opid::Hash;
 
@@ -29,7 +26,7 @@ fn ensure(fine: bool, fault: ChangeError) -> Result<(), ChangeError>
     if fine { Ok(()) } else { Err(fault) }
 }
 
-/// Whether a hash stands above the one before it, if there is one.
+/// Whether a hash is above the one before it, if there is one.
 fn is_next(before: Option<Hash>, hash: &Hash) -> bool
     ensures { result ≡ is_above before hash.now }
 {
@@ -39,7 +36,7 @@ fn is_next(before: Option<Hash>, hash: &Hash) -> bool
     }
 }
 
-/// Whether each hash stands above the one before it.
+/// Whether each hash is above the one before it.
 fn do_rise(hashes: &[Hash]) -> bool
     ensures value { result ≡ rises_after None hashes.now }
     ensures bytes { IsTrue result → All IsHash hashes.now }
@@ -55,7 +52,7 @@ fn do_rise(hashes: &[Hash]) -> bool
     true
 }
 
-/// At most so many dependencies, rising.
+/// Refuses dependencies that are more than `MAX_DEPS`, or don't rise.
 fn validate_deps(deps: &[Hash]) -> Result<(), ChangeError>
     ensures value { result ≡ validated_deps deps.now }
     ensures bytes { OnOk result (All IsHash deps.now) }
@@ -123,7 +120,7 @@ fn validate_numbers(seq: u64, start: u64) -> Result<(), ChangeError>
 fn validate_message(body: &Body) -> Result<(), ChangeError>
     ensures value { result ≡ unless
         (nat_le (length (encode_utf8_all body.now.message)) MAX_MESSAGE_BYTES) Limit }
-    ensures typed { all_scalars body.now.message ≡ true }
+    ensures typed { IsTrue (all_scalars body.now.message) }
 {
     ensure(
         body.message().len() <= MAX_MESSAGE_BYTES,
@@ -149,9 +146,9 @@ fn validate_list(start: u64, records: &[Record]) -> Result<(), ChangeError>
 }
 
 /// The whole size and then each field, with what the types say of them.
-#[tactic(auto, unfolding(crate::specs::Validated::validated))]
+#[tactic(auto, unfolding(crate::specs::Validated::validated_parts))]
 fn validate_fields(body: &Body) -> Result<(), ChangeError>
-    ensures value { result ≡ validated body.now }
+    ensures value { result ≡ validated_parts body.now }
     ensures typed { OnOk result (IsTyped body.now) }
 {
     ensure(body_len(body) <= MAX_BYTES, ChangeError::Limit)?;
@@ -166,7 +163,7 @@ fn validate_fields(body: &Body) -> Result<(), ChangeError>
 /// The first fault of the parts: the whole size first, then each field in turn. No memory; the cost is that of
 /// going over the parts once.
 pub(crate) fn validate(body: &Body) -> Result<(), ChangeError>
-    ensures value { result ≡ validated body.now }
+    ensures value { result ≡ validated_parts body.now }
     ensures within { OnOk result (IsChange body.now) }
     ensures only { IsChange body.now → result ≡ Ok tt }
     ensures faults { IfErr result (λ e. IsTrue (is_fault_of_parts e)) }

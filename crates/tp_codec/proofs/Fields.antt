@@ -10,7 +10,7 @@ use Rattle.std.proofs.lemmas.List.Concat.{flat_map-cons}
 use Rattle.std.proofs.lemmas.Nat.{be_bytes_2, be_bytes_4, be_bytes_8, from_be_bytes-to_be_bytes_2, from_be_bytes-to_be_bytes_4, from_be_bytes-to_be_bytes_8}
 use Rattle.std.proofs.lemmas.Str.{encodes-chars, scalars-chars, chars-encodes, IsUtf8-from_is_utf8, is_utf8-from_IsUtf8}
 use Rattle.tp_codec.specs.Prefix.{byte_at, bytes_at, number_at}
-use Rattle.tp_codec.specs.Reading.{Reads, give, fail, and_next, and_then, found_or, or_fail, passed, require, repeat_at, characters_at, text_at}
+use Rattle.tp_codec.specs.Reading.{Reads, give, fail, and_next, and_then, found_or, or_fail, pass_or_fail, require, repeat_at, characters_at, text_at}
 use lib.Utf8.{scalar, encode, scalar_cases}
 
 -- each is a byte
@@ -44,7 +44,7 @@ reads_more short field spell Fits f bytes more x rest fits e =
     let regrouped : bytes ++ more ≡ spell x ++ (rest ++ more) = ap (λ (b : List ℕ). b ++ more) t.0 ∙ append_assoc (spell x) rest more in
     ap field regrouped ∙ f.again x (rest ++ more) t.1
 
--- the same field by another spelling and another word for what fits
+-- a field by another spelling and another condition for what fits, where they agree with its own
 pub as_field : {X E : Type 0} (short : E) (field : Reads E X) (spell spelled : X → List ℕ) (Fits Fit : X → Type 0) → IsField short field spell Fits
     → ((x : X) → Fits x → spell x ≡ spelled x) → ((x : X) → Fits x → Fit x) → ((x : X) → Fit x → Fits x) → IsField short field spelled Fit
 as_field short field spell spelled Fits Fit f same there back = record {
@@ -124,9 +124,9 @@ then_field {X} {Z} {E} short first next spell_first FirstFits get spell_next Nex
       ];
 }
 
--- a test with no field behind it
+-- a test with no field after it
 pub test_field : {E : Type 0} (short : E) (test : Bool) (e : E) → IsField short (require test e) (λ _. []) (λ _. test ≡ true)
-unfolding require passed
+unfolding require pass_or_fail
 test_field {E} short true e = record {
   takes = λ bytes x rest fits r. (ap (λ (q : Unit {0} × List ℕ). q.1) (pair_is {E = E} (tt, bytes) (x, rest) r), refl);
   again = λ x rest fit. refl;
@@ -138,10 +138,10 @@ test_field short false e = record {
   stays = λ bytes more d fits r apart. r;
 }
 
--- a field behind a test
+-- a field after a test
 pub require_field : {X E : Type 0} (short : E) (test : Bool) (e : E) (next : Reads E X) (spell : X → List ℕ) (Fits : X → Type 0)
     → (test ≡ true → IsField short next spell Fits) → IsField short (and_then (require test e) (λ _. next)) spell (λ x. (test ≡ true) × Fits x)
-unfolding and_then require passed and_next
+unfolding and_then require pass_or_fail and_next
 require_field short true e next spell Fits f = record {
   takes = λ bytes x rest fits r. let t = (f refl).takes bytes x rest fits r in (t.0, (refl, t.1));
   again = λ x rest fit. (f refl).again x rest fit.1;
@@ -153,7 +153,7 @@ require_field short false e next spell Fits f = record {
   stays = λ bytes more d fits r apart. r;
 }
 
--- ---- what stands at the start
+-- ---- what is at the start
 
 found_ok : {X E : Type 0} (short : E) (there : Option (X × List ℕ)) (x : X × List ℕ) → found_or short there ≡ Ok x → there ≡ Some x
 unfolding found_or
@@ -324,7 +324,7 @@ one_taken short field step spell Fits n s f g bytes ys rest fits ((x, mid), e, r
     let t = f.takes bytes x mid fits e in
     rest_taken short field step spell Fits n s x bytes mid t.0 t.1 (AreBytes-rest (spell x) bytes mid t.0 fits) (g x) ys rest (next_ok (repeat_at field step n (step s x) mid) (λ xs. give (x ∷ xs)) (ys, rest) r)
 
--- a fault behind the first value
+-- a fault after the first value
 one_stays : {S X E : Type 0} (short : E) (field : S → Reads E X) (step : S → X → S) (spell : X → List ℕ) (Fits : S → X → Type 0) (n : ℕ) (s : S)
     → IsField short (field s) spell (Fits s)
     → ((x : X) → IsField short (repeat_at field step n (step s x)) (flat_map spell) (λ xs. (length xs ≡ n) × EachFits Fits step (step s x) xs))

@@ -36,17 +36,17 @@ unfoldable pub found_or : {X E : Type 0} → E → Option (X × List ℕ) → Re
 found_or e (Some x) = Ok x
 found_or e None = Err e
 
--- what stands at the start, or the fault
+-- what is at the start, or the fault
 unfoldable pub or_fail : {X E : Type 0} → E → (List ℕ → Option (X × List ℕ)) → Reads E X
 or_fail e there bytes = found_or e (there bytes)
 
-unfoldable pub passed : {E : Type 0} → Bool → E → List ℕ → Result (Unit {0} × List ℕ) E
-passed true e bytes = Ok (tt, bytes)
-passed false e bytes = Err e
+unfoldable pub pass_or_fail : {E : Type 0} → Bool → E → List ℕ → Result (Unit {0} × List ℕ) E
+pass_or_fail true e bytes = Ok (tt, bytes)
+pass_or_fail false e bytes = Err e
 
 -- the fault, unless the test holds
 unfoldable pub require : {E : Type 0} → Bool → E → Reads E (Unit {0})
-require test e bytes = passed test e bytes
+require test e bytes = pass_or_fail test e bytes
 
 -- n fields one after another, where each value changes the state in which the next is read
 unfoldable pub repeat_at : {S X E : Type 0} → (S → Reads E X) → (S → X → S) → ℕ → S → Reads E (List X)

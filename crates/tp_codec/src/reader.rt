@@ -61,7 +61,7 @@ impl<'a> Reader<'a> {
         }
     }
 
-    /// The next so many bytes.
+    /// The next `n` bytes.
     #[tactic(auto, unfolding(crate::specs::Prefix::bytes_at))]
     pub fn bytes(&mut self, count: usize) -> Option<&'a [u8]>
         ensures found { Finds (λ b. (b.now, self.new)) result (bytes_at count self.old) }

@@ -24,7 +24,7 @@ use Rattle.tp_command_line.specs.Commands.{textpeer_app}
 use Rattle.tp_command_line.specs.Rules.{few, numbers, pausing, waiting}
 use Rattle.tp_command_line.specs.Uses.{IsUse, always_has}
 use Rattle.tp_command_line.specs.Values.{HasFlag, HasNumber, HasValue, IsNumber, IsNumberIn, MayHaveNumber, is_flag, is_number, is_numeric, parser_named}
-use Rattle.tp_command_line.specs.LineError.{FailsAs, RefusesLine, IsPassedAs, RefusesValue, NotRead}
+use Rattle.tp_command_line.specs.LineError.{FailsAs, RefusesLine, IsPassedAs, RefusesValue, RefusesReading}
 use Rattle.tp_command_line.specs.declared.job.Job.{Job}
 use Rattle.tp_command_line.specs.declared.error.LineError.{LineError}
 use Rattle.tp_command_line.specs.declared.error.LineError.TheVariants.{Request, Fault, Value}
@@ -140,7 +140,7 @@ no_other name rows found none =
     let bad : None ≡ Some found.shape = sym (not_found name (built textpeer_app).subs none) ∙ found.named in
     absurd (cc)
 
--- the name that stands with the rows is the name
+-- the name that is with the rows is the name
 name_of_rows : {X : Type 0} (name : X → Text) (rows : X → List Row) (found : Option X)
     → option_map (λ p. p.0) (option_map (λ x. let row : Text × List Row = (name x, rows x) in row) found) ≡ option_map name found
 name_of_rows name rows None = refl
@@ -199,7 +199,7 @@ caused kinds found said (Request e) passed (inr among) =
     ⊎_elim (λ h. inl (subst (λ (k : ErrorKind). IsAmong k kinds) h among)) (λ v. inr (subst (λ (k : ErrorKind). IsAmong k kinds) v among)) passed.1
 caused kinds found said (Fault e) passed (inl memory) = absurd (passed.1 memory)
 caused kinds found said (Fault e) passed (inr among) = subst (λ (x : Error). IsAmong (kind_of x) kinds) (sym passed.0) among
-caused kinds found said (Value e) passed has = subst (NotRead kinds found) (sym passed.0) tt
+caused kinds found said (Value e) passed has = subst (RefusesReading kinds found) (sym passed.0) tt
 
 -- an error is passed up as it is
 pub fails_as : (a : App) (words : List Text) (e : Error) (r : Result Job LineError) → a ≡ textpeer_app → IsErrAnd r (IsPassedAs e)
@@ -211,7 +211,7 @@ fails_as a words e (Err y) is passed has =
 
 -- so it is of why a value wasn't read
 not_read : (kinds : Kinds) (found : Option (Text × List Row)) (name : Text) (rows : List Row) (e : ValueError) → kinds ≡ [] → found ≡ Some (name, rows)
-    → RefusesValue rows e → NotRead kinds found e
+    → RefusesValue rows e → RefusesReading kinds found e
 not_read kinds found name rows BadHex none is bad = (name, rows, none, is, bad)
 not_read kinds found name rows BadAddress none is bad = (name, rows, none, is, bad)
 not_read kinds found name rows BadPage none is bad = (name, rows, none, is, bad)

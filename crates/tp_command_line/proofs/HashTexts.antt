@@ -10,7 +10,7 @@ use Rattle.tp_opid.specs.HexText.{IsHexOf}
 use Rattle.tp_opid.specs.declared.hash.Hash.{Hash}
 use Rattle.tp_opid.specs.declared.hex_text.HexError.{HexError}
 use Rattle.tp_command_line.specs.LineError.{RefusesValue}
-use Rattle.tp_command_line.specs.Values.{AreHashes, IsNoHash, all_hashes, given_hashes, is_of_hashes}
+use Rattle.tp_command_line.specs.Values.{AreHexOf, IsNoHash, all_hashes, given_hashes, is_of_hashes}
 use Rattle.tp_command_line.specs.declared.error.ValueError.{ValueError}
 use Rattle.tp_command_line.specs.declared.error.ValueError.TheVariants.{BadHex, OutOfMemory}
 
@@ -19,18 +19,18 @@ abbrev pub texts_of : List (Bor Text) → List Text
 texts_of ts = map (λ (t : Bor Text). t.now) ts
 
 -- one more text, and its hash
-AreHashes-push : (ts : List Text) (hs : List Hash) (t : Text) (h : Hash) → AreHashes ts hs → IsHexOf t h.0 → AreHashes (ts ++ t ∷ []) (hs ++ h ∷ [])
-AreHashes-push [] [] t h are is = (is, tt)
-AreHashes-push [] (x ∷ hs) t h are is = absurd are
-AreHashes-push (y ∷ ts) [] t h are is = absurd are
-AreHashes-push (y ∷ ts) (x ∷ hs) t h are is = (are.0, AreHashes-push ts hs t h are.1 is)
+AreHexOf-push : (ts : List Text) (hs : List Hash) (t : Text) (h : Hash) → AreHexOf ts hs → IsHexOf t h.0 → AreHexOf (ts ++ t ∷ []) (hs ++ h ∷ [])
+AreHexOf-push [] [] t h are is = (is, tt)
+AreHexOf-push [] (x ∷ hs) t h are is = absurd are
+AreHexOf-push (y ∷ ts) [] t h are is = absurd are
+AreHexOf-push (y ∷ ts) (x ∷ hs) t h are is = (are.0, AreHexOf-push ts hs t h are.1 is)
 
--- the same, of the first texts of a list
-pub AreHashes-more : (ts : List (Bor Text)) (i : ℕ) (hs new : List Hash) (text : Text) (t : Bor Text) (h : Hash) → i < length ts
-    → text ≡ (get_or ts i t).now → AreHashes (texts_of (take i ts)) hs → IsHexOf text h.0 → new ≡ hs ++ h ∷ [] → AreHashes (texts_of (take (i + 1) ts)) new
-AreHashes-more ts i hs new text t h lt at are is pushed =
+-- one more of the first texts of a list, and its hash
+pub AreHexOf-more : (ts : List (Bor Text)) (i : ℕ) (hs new : List Hash) (text : Text) (t : Bor Text) (h : Hash) → i < length ts
+    → text ≡ (get_or ts i t).now → AreHexOf (texts_of (take i ts)) hs → IsHexOf text h.0 → new ≡ hs ++ h ∷ [] → AreHexOf (texts_of (take (i + 1) ts)) new
+AreHexOf-more ts i hs new text t h lt at are is pushed =
     rw (map_more (λ (x : Bor Text). x.now) ts i t lt, pushed)
-    (AreHashes-push (texts_of (take i ts)) hs (get_or ts i t).now h are (subst (λ (s : Text). IsHexOf s h.0) at is))
+    (AreHexOf-push (texts_of (take i ts)) hs (get_or ts i t).now h are (subst (λ (s : Text). IsHexOf s h.0) at is))
 
 -- a text is no hash that is refused where each text of a hash would give it
 pub IsNoHash-refused : (text : Text) (r : Result Hash HexError) (e : HexError) → ((x : Hash) → length x.0 ≡ 32 → IsHexOf text x.0 → r ≡ Ok x) → r ≡ Err e

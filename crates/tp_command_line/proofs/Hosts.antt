@@ -25,11 +25,11 @@ module _ (text name : Text) (port : ℕ) (is : IsHostText text name port) where
   cut : text ≡ name ++ 58 ∷ is.port_text
   cut = is.spelled ∙ append_assoc name (codes ":") is.port_text
 
-  -- what stands before the first colon is the name
+  -- what is before the first colon is the name
   pub name_before : before_first (λ b. b == 58) text ≡ name
   name_before = ap (before_first (λ b. b == 58)) cut ∙ before_first-at 58 name is.port_text lacks
 
-  -- and what stands after it is the port
+  -- and what is after it is the port
   pub port_after : IsPort (after_first (λ b. b == 58) text) port
   port_after = subst (λ (t : Text). IsPort t port) (sym (ap (after_first (λ b. b == 58)) cut ∙ after_first-at 58 name is.port_text lacks)) is.port_is
 

@@ -155,7 +155,7 @@ row_there id (x ∷ xs) e = go (bytes_eq x.id id) (row_there id xs) e
     go true rest is = (x, refl)
     go false rest is = rest is
 
--- the same, from the test
+-- the first row, where the test finds one
 pub first_of_row : (id : Text) (rows : List Row) → AllFilled rows → has_row id rows ≡ true → HasFirst id rows
 first_of_row id rows full e = let there = row_there id rows e in row_first id rows there.0 full there.1
 

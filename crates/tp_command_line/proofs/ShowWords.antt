@@ -98,7 +98,7 @@ show_path path words job ask found =
     let log : Named → Option Text = λ p. p.1 in
     show_of_name path found.0 found.1 job (ap name same) (ap log same) found.3
 
--- an argument whose value is an address is one of these, of which none was given
+-- an argument whose value is an address is one of these, and none of these was given
 no_address_given : (id : Text) (rows : List Row) → first_of (codes "ADDR") rows ≡ None → first_of (codes "serve") rows ≡ None → first_of (codes "server") rows ≡ None
     → is_of_address id ≡ true → first_of id rows ≡ None
 no_address_given id rows addr serve server of = go (bytes_eq (codes "ADDR") id) (bytes_eq (codes "serve") id) (bytes_eq (codes "server") id) refl refl refl of

@@ -37,7 +37,7 @@ settled_filled : (c : List Rule) (again : Bool) (pending : Option (Text × List 
 settled_filled c again None rows fills e h = h
 settled_filled c again (Some p) rows fills e h = used_filled (arg_by_id c p.0) again p.1 rows (λ a is. fills _ a is) e h
 
--- the same, of what is held
+-- what is held, with the use of what is pending
 pub settle_filled : (c : List Rule) (again : Bool) (h : Held) → AllFill c → settle_fault c again h ≡ [] → AllFilled h.rows → AllFilled (settled c h).rows
 settle_filled c again h fills e full = settled_filled c again h.pending h.rows fills e full
 

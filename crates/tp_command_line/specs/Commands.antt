@@ -31,7 +31,8 @@ edit_at_shape = with_rules (codes "edit")
     (file_rule ∷ mandatory (numeric (option_rule (codes "at")))
     ∷ mandatory (numeric (option_rule (codes "del"))) ∷ [])
 
--- the same, and `--text T` or `--text-file F`, `[--time N] [--message M] [--key HEX]`; of the texts the rules ask for none
+-- `edit FILE --at N --del N`, and `--text T` or `--text-file F`, `[--time N] [--message M] [--key HEX]`; of the texts
+-- the rules ask for none
 abbrev pub edit_shape : Shape
 edit_shape = with_rules (codes "edit") (edit_at_shape.rules
     ++ option_rule (codes "text") ∷ option_rule (codes "text-file") ∷ time_rule ∷ message_rule ∷ key_rule ∷ [])

@@ -1,5 +1,5 @@
 -- Why a command line gave no job.
-use Rattle.std.specs.Prelude.{Bool, true, false, ◌≡◌, ◌≢◌, ◌⊎◌, ℕ, List, [], Option, Some, None, Result, MatchResult, Any, codes}
+use Rattle.std.specs.Prelude.{Bool, true, false, ◌≡◌, ◌≢◌, ◌⊎◌, ℕ, List, [], Option, Some, None, Result, MatchResult, Any, codes, IsTrue}
 use Rattle.clap.specs.Words.{IsAmong, Kinds, Row, Text, first_of, kind_of}
 use Rattle.clap.specs.declared.error.Error.{Error}
 use Rattle.clap.specs.declared.error.kind.ErrorKind.{ErrorKind}
@@ -46,7 +46,7 @@ HasNotOneText rows = ((n : ℕ) × HasNumber (codes "at") rows n)
 -- of this machine, memory ran out, or an edit has not one text.
 abbrev pub RefusesValue : List Row → ValueError → Type 0
 RefusesValue rows BadHex = Any IsNoHash (all_hashes rows) ⊎ ((text : Text) × (first_of (codes "key") rows ≡ Some text) × IsNoHash text)
-RefusesValue rows BadAddress = (id text : Text) × (is_of_address id ≡ true) × (first_of id rows ≡ Some text) × IsNoAddress text
+RefusesValue rows BadAddress = (id text : Text) × IsTrue (is_of_address id) × (first_of id rows ≡ Some text) × IsNoAddress text
 RefusesValue rows BadPage = (text : Text) × (first_of (codes "PAGE") rows ≡ Some text) × IsNoPage text
 RefusesValue rows OutOfMemory = Unit {0}
 RefusesValue rows NotOneText = HasNotOneText rows
@@ -72,19 +72,19 @@ abbrev pub MayBeDone : Kinds → Type 0
 MayBeDone kinds = (kinds ≡ []) ⊎ AsksForHelp kinds
 
 -- The words are at no fault, but a value of the subcommand that they name isn't read; or memory ran out.
-abbrev pub NotRead : Kinds → Option (Text × List Row) → ValueError → Type 0
-NotRead kinds found OutOfMemory = Unit {0}
-NotRead kinds found e = (name : Text) × (rows : List Row) × (kinds ≡ []) × (found ≡ Some (name, rows)) × RefusesValue rows e
+abbrev pub RefusesReading : Kinds → Option (Text × List Row) → ValueError → Type 0
+RefusesReading kinds found OutOfMemory = Unit {0}
+RefusesReading kinds found e = (name : Text) × (rows : List Row) × (kinds ≡ []) × (found ≡ Some (name, rows)) × RefusesValue rows e
 
 -- The words are at no fault, but ask for an edit with not one text.
 abbrev pub AskForNotOneText : Kinds → Option (Text × List Row) → Type 0
-AskForNotOneText kinds found = NotRead kinds found NotOneText
+AskForNotOneText kinds found = RefusesReading kinds found NotOneText
 
 -- Why there is no job: help or the version is asked for, the words have that fault, or a value isn't read.
 abbrev pub RefusesLine : Kinds → Option (Text × List Row) → LineError → Type 0
 RefusesLine kinds found (Request e) = AsksForHelp kinds
 RefusesLine kinds found (Fault e) = IsAmong (kind_of e) kinds
-RefusesLine kinds found (Value e) = NotRead kinds found e
+RefusesLine kinds found (Value e) = RefusesReading kinds found e
 
 -- an `Ok` comes only where there is no fault, and an `Err` is for its cause
 abbrev pub FailsAs : {T : Type 0} → Kinds → Option (Text × List Row) → Result T LineError → Type 0

@@ -59,7 +59,7 @@ sessions_rule = record (numeric (option_rule (codes "sessions"))) { defaults = c
 abbrev pub workers_rule : Rule
 workers_rule = record (option_rule (codes "workers")) { parser = Some few; defaults = codes "2" ∷ [] }
 
--- so many seconds one side waits for the other: up to a day, and for ever where it is 0
+-- how many seconds one side waits for the other: up to a day, and for ever where it is 0
 abbrev pub waiting : ValueParser
 waiting = Unsigned 0 86400
 
@@ -75,7 +75,7 @@ page_rule = record (new_rule (codes "PAGE")) { action = Some Set; defaults = cod
 abbrev pub server_rule : Rule
 server_rule = record (option_rule (codes "server")) { long = Some (codes "follow") }
 
--- so many seconds between two sessions: up to a day
+-- how many seconds are between two sessions: up to a day
 abbrev pub pausing : ValueParser
 pausing = Unsigned 1 86400
 

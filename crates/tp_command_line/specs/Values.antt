@@ -1,5 +1,5 @@
 -- What a parse without a fault leaves of a subcommand's arguments, and which value that is.
-use Rattle.std.specs.Prelude.{◌≡◌, ◌⊎◌, ◌&&◌, ◌||◌, ◌==◌, ℕ, ◌^◌, ◌<◌, Bool, true, false, nat_lt, if◌then◌else◌, List, [], ◌∷◌, ◌++◌, length, Option, Some, None, codes, unwrap_or}
+use Rattle.std.specs.Prelude.{◌≡◌, ◌⊎◌, ◌&&◌, ◌||◌, ◌==◌, ℕ, ◌^◌, ◌<◌, Bool, true, false, nat_lt, if◌then◌else◌, List, [], ◌∷◌, ◌++◌, length, Option, Some, None, codes, unwrap_or, IsTrue}
 use Rattle.std.specs.List.{list_all, list_any}
 use Rattle.std.specs.Net.Addr.{IsLoopbackV4, IsLoopbackV6, MatchIp}
 use Rattle.std.specs.Net.Grammar.{IsSocketText}
@@ -21,7 +21,7 @@ use Rattle.tp_command_line.specs.declared.job.Hosting.{Hosting}
 abbrev pub HasValue : Text → List Row → Type 0
 HasValue id rows = (value : Text) × (first_of id rows ≡ Some value)
 
--- the text is the number n, in decimal digits behind at most one plus
+-- the text is the number n, in decimal digits after at most one plus
 pub record IsNumber (text : Text) (n : ℕ) : Type 0 where
   pub digits : IsNumeral 10 (without_leading_plus text)
   pub small : n < 2 ^ 64
@@ -53,11 +53,11 @@ HasFlag id rows given = one_of id rows ≡ Some (flag_text given)
 -- ---- hashes, keys and addresses
 
 -- the texts are the hexadecimal digits of the hashes, one for one
-abbrev pub AreHashes : List Text → List Hash → Type 0
-AreHashes [] [] = Unit {0}
-AreHashes [] (h ∷ hs) = ⊥
-AreHashes (t ∷ ts) [] = ⊥
-AreHashes (t ∷ ts) (h ∷ hs) = IsHexOf t h.0 × AreHashes ts hs
+abbrev pub AreHexOf : List Text → List Hash → Type 0
+AreHexOf [] [] = Unit {0}
+AreHexOf [] (h ∷ hs) = ⊥
+AreHexOf (t ∷ ts) [] = ⊥
+AreHexOf (t ∷ ts) (h ∷ hs) = IsHexOf t h.0 × AreHexOf ts hs
 
 -- the text isn't the hexadecimal digits of 32 bytes
 abbrev pub IsNoHash : Text → Type 0
@@ -90,7 +90,7 @@ is_of_host b = is_of_name b || is_digit b || (b == 46)
 abbrev pub is_host_name : Text → Bool
 is_host_name name = list_all is_of_host name && list_any is_of_name name
 
--- the text is the port, in decimal digits behind at most one plus
+-- the text is the port, in decimal digits after at most one plus
 pub record IsPort (text : Text) (port : ℕ) : Type 0 where
   pub digits : IsNumeral 10 (without_leading_plus text)
   pub small : port < 2 ^ 16
@@ -98,7 +98,7 @@ pub record IsPort (text : Text) (port : ℕ) : Type 0 where
 
 -- the text is the name and the port, with a colon between
 pub record IsHostText (text name : Text) (port : ℕ) : Type 0 where
-  pub named : is_host_name name ≡ true
+  pub named : IsTrue (is_host_name name)
   pub port_text : Text
   pub spelled : text ≡ name ++ codes ":" ++ port_text
   pub port_is : IsPort port_text port
@@ -121,7 +121,7 @@ abbrev pub all_hashes : List Row → List Text
 all_hashes rows = given_hashes (codes "HASH") rows ++ given_hashes (codes "to") rows
 
 abbrev pub HasHashes : Text → List Row → List Hash → Type 0
-HasHashes id rows hashes = AreHashes (given_hashes id rows) hashes
+HasHashes id rows hashes = AreHexOf (given_hashes id rows) hashes
 
 abbrev pub HasHeads : List Row → List Hash → Type 0
 HasHeads rows heads = HasHashes (codes "HASH") rows heads

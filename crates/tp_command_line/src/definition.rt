@@ -164,7 +164,7 @@ fn program<'a>(alloc: Global) -> Command<'a>
 }
 
 // A value that has to be given, by its place.
-fn required<'a>(alloc: Global, id: &'a str, help: &'a str) -> Arg<'a>
+fn required_argument<'a>(alloc: Global, id: &'a str, help: &'a str) -> Arg<'a>
     ensures rule { rule_of result ≡ required_rule id.entry.now }
     ensures local { result.global ≡ false }
 {
@@ -179,7 +179,7 @@ fn journal<'a>(alloc: Global) -> Arg<'a>
     ensures rule { rule_of result ≡ required_rule (codes "FILE") }
     ensures local { result.global ≡ false }
 {
-    required(alloc, "FILE", "a journal")
+    required_argument(alloc, "FILE", "a journal")
 }
 
 // An option with a value.
@@ -231,7 +231,7 @@ fn position<'a>(alloc: Global) -> Arg<'a>
     ensures rule { rule_of result ≡ numeric (required_rule (codes "AT")) }
     ensures local { result.global ≡ false }
 {
-    required(
+    required_argument(
         alloc,
         "AT",
         "the position of a character in the text at the heads, from 0",
@@ -377,7 +377,7 @@ fn message<'a>(alloc: Global) -> Arg<'a>
 }
 
 // A command with what it does, and an example, and with no argument yet.
-fn named<'a>(alloc: Global, name: &'a str, about: &'a str, example: &'a str) -> Command<'a>
+fn bare_command<'a>(alloc: Global, name: &'a str, about: &'a str, example: &'a str) -> Command<'a>
     ensures { IsLeaf (with_rules name.entry.now []) result }
 {
     Command::new(alloc, name).about(about).after_help(example)
@@ -394,7 +394,7 @@ fn value_command<'a>(
 ) -> Result<Command<'a>, AllocError>
     ensures { IfOk result (IsLeaf (with_rules name.entry.now (required_rule id.entry.now ∷ []))) }
 {
-    named(alloc, name, about, example).arg(required(alloc, id, help))
+    bare_command(alloc, name, about, example).arg(required_argument(alloc, id, help))
 }
 
 // A command on a journal alone.
@@ -421,7 +421,7 @@ fn pair_command<'a>(
     ensures { IfOk result (IsLeaf
         (with_rules name.entry.now (file_rule ∷ required_rule id.entry.now ∷ []))) }
 {
-    file_command(alloc, name, about, example)?.arg(required(alloc, id, help))
+    file_command(alloc, name, about, example)?.arg(required_argument(alloc, id, help))
 }
 
 fn new_command<'a>(alloc: Global) -> Result<Command<'a>, AllocError>

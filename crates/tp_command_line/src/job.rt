@@ -123,7 +123,7 @@ pub enum FileJob<'a> {
         /// The path of the journal.
         file: &'a str,
     },
-    /// Prints where a character of an earlier text stands now.
+    /// Prints where a character of an earlier text is now.
     Cursor {
         /// The path of the journal.
         file: &'a str,
@@ -132,7 +132,7 @@ pub enum FileJob<'a> {
         /// The heads of the earlier text.
         heads: Vec<Hash>,
     },
-    /// Says what stands in a journal, whatever is damaged in it.
+    /// Says what is in a journal, whatever is damaged in it.
     Check {
         /// The path of the journal.
         file: &'a str,
@@ -221,7 +221,7 @@ pub enum Job<'a> {
         /// The key.
         key: Option<[u8; 32]>,
     },
-    /// The same, again and again.
+    /// Exchanges changes with a server, again and again.
     Follow {
         /// The path of the journal.
         file: &'a str,
@@ -299,7 +299,7 @@ impl<'a> Job<'a> {
     }
 }
 
-// The same of a job that needs no network.
+// What a job is about that needs no network.
 fn subject_of_files<'a>(job: &FileJob<'a>) -> Subject<'a>
     ensures { result ≡ subject_of (Files job.now) }
 {

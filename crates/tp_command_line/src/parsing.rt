@@ -13,8 +13,8 @@ use crate::job::{Job, job_of};
 use std::alloc::Global;
 use std::convert::AsStr;
 
-/// The job that a command line asks for, of which the first word is the program's name, as in `env::args`. A value
-/// that begins with a hyphen stands after `--`, or behind its option and `=`; numbers are decimal, up to 2^64 - 1.
+/// The job that a command line asks for; its first word is the program's name, as in `env::args`. A value
+/// that begins with a hyphen comes after `--`, or after its option and `=`; numbers are decimal, up to 2^64 - 1.
 /// Anything else than a command with its values is a fault, and `--help` and `--version` are requests. Of words at no fault
 /// the hashes and the key are read, then the address: [`ValueError`](crate::ValueError) says what isn't one.
 pub fn line<'a, S: AsStr>(alloc: Global, words: &'a [S]) -> Result<Job<'a>, LineError>

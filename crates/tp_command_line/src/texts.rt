@@ -5,7 +5,7 @@ ghost use Rattle.std.specs.List.{list_all, list_any};
 ghost use Rattle.std.specs.Net.Grammar.{IsSocketText};
 ghost use Rattle.tp_opid.specs.HexText.{IsHexOf};
 ghost use Rattle.tp_command_line.specs.declared.error.ValueError.TheVariants.{BadAddress, BadHex, BadPage, OutOfMemory};
-ghost use Rattle.tp_command_line.specs.Values.{AreHashes, IsAddressText, IsHostText, IsNoAddress, IsNoHash, IsNoPage, IsOfThisMachine, is_host_name as host_name_test, is_of_host as host_test, is_of_name as name_test};
+ghost use Rattle.tp_command_line.specs.Values.{AreHexOf, IsAddressText, IsHostText, IsNoAddress, IsNoHash, IsNoPage, IsOfThisMachine, is_host_name as host_name_test, is_of_host as host_test, is_of_name as name_test};
 
 use crate::address::Address;
 use crate::error::ValueError;
@@ -16,7 +16,7 @@ use tp_opid::Hash;
 /// The hashes that the texts are, in their order. A text that isn't 64 hexadecimal digits is refused as `BadHex`; the only
 /// other refusal is `OutOfMemory`.
 pub(crate) fn hashes_in(alloc: Global, texts: &[&str]) -> Result<Vec<Hash>, ValueError>
-    ensures ok { IfOk result (λ hashes. AreHashes (map (λ t. t.now) texts.now) hashes.items) }
+    ensures ok { IfOk result (λ hashes. AreHexOf (map (λ t. t.now) texts.now) hashes.items) }
     ensures err { IfErr result (λ e. (e ≡ OutOfMemory)
         ⊎ ((e ≡ BadHex) × Any IsNoHash (map (λ t. t.now) texts.now))) }
 {

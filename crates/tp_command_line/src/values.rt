@@ -1,6 +1,6 @@
 //! The values of what the parser found.
 
-ghost use Rattle.std.specs.Prelude.{◌≡◌, true, IfErr, IfOk, Some, option_map, codes};
+ghost use Rattle.std.specs.Prelude.{◌≡◌, IfErr, IfOk, Some, option_map, codes, IsTrue};
 ghost use Rattle.clap.specs.declared.builder.value_parser.ValueParser.TheVariants as parser;
 ghost use Rattle.clap.specs.Words.{first_of, found_of, rows_of};
 ghost use Rattle.tp_command_line.specs.Commands.{HasInserted};
@@ -20,7 +20,7 @@ use tp_opid::Hash;
 /// The value of an argument that the subcommand always has.
 pub(crate) fn text_of<'a>(found: &ArgMatches<'a>, name: &str, id: &str) -> &'a str
     requires is_use { IsUse name.now (rows_of (found_of found.now)) }
-    requires given { always_has name.now id.now ≡ true }
+    requires given { IsTrue (always_has name.now id.now) }
     ensures { first_of id.now (rows_of (found_of found.now)) ≡ Some result.now }
 {
     found.get_str(id).unwrap()
@@ -29,8 +29,8 @@ pub(crate) fn text_of<'a>(found: &ArgMatches<'a>, name: &str, id: &str) -> &'a s
 /// The number that it has as its value.
 pub(crate) fn number_of(found: &ArgMatches<'_>, name: &str, id: &str) -> u64
     requires is_use { IsUse name.now (rows_of (found_of found.now)) }
-    requires given { always_has name.now id.now ≡ true }
-    requires number { is_number id.now ≡ true }
+    requires given { IsTrue (always_has name.now id.now) }
+    requires number { IsTrue (is_number id.now) }
     ensures { HasNumber id.now (rows_of (found_of found.now)) result }
 {
     found.get_one(id).unwrap()
@@ -39,7 +39,7 @@ pub(crate) fn number_of(found: &ArgMatches<'_>, name: &str, id: &str) -> u64
 /// The number that an argument has as its value, where it is given.
 pub(crate) fn number_in(found: &ArgMatches<'_>, name: &str, id: &str) -> Option<u64>
     requires is_use { IsUse name.now (rows_of (found_of found.now)) }
-    requires number { is_number id.now ≡ true }
+    requires number { IsTrue (is_number id.now) }
     ensures { MayHaveNumber id.now (rows_of (found_of found.now)) result }
 {
     found.get_one(id)
@@ -48,7 +48,7 @@ pub(crate) fn number_in(found: &ArgMatches<'_>, name: &str, id: &str) -> Option<
 /// Whether a flag of the subcommand is given.
 pub(crate) fn flag_of(found: &ArgMatches<'_>, name: &str, id: &str) -> bool
     requires is_use { IsUse name.now (rows_of (found_of found.now)) }
-    requires given { always_has name.now id.now ≡ true }
+    requires given { IsTrue (always_has name.now id.now) }
     requires flag { parser_named id.now ≡ parser.Bool }
     ensures { HasFlag id.now (rows_of (found_of found.now)) result }
 {
@@ -95,7 +95,7 @@ pub(crate) fn key_of(found: &ArgMatches<'_>) -> Result<Option<[u8; 32]>, ValueEr
 /// The address that is given.
 pub(crate) fn address_of<'a>(found: &ArgMatches<'a>, name: &str) -> Result<Address<'a>, ValueError>
     requires is_use { IsUse name.now (rows_of (found_of found.now)) }
-    requires given { always_has name.now (codes "ADDR") ≡ true }
+    requires given { IsTrue (always_has name.now (codes "ADDR")) }
     ensures ok { IfOk result (HasAddress (rows_of (found_of found.now))) }
     ensures err { IfErr result (RefusesValue (rows_of (found_of found.now))) }
 {
@@ -107,7 +107,7 @@ pub(crate) fn address_if_given<'a>(
     found: &ArgMatches<'a>,
     id: &str,
 ) -> Result<Option<Address<'a>>, ValueError>
-    requires { is_of_address id.now ≡ true }
+    requires { IsTrue (is_of_address id.now) }
     ensures ok { IfOk result (MayHaveAddress id.now (rows_of (found_of found.now))) }
     ensures err { IfErr result (RefusesValue (rows_of (found_of found.now))) }
 {
@@ -135,7 +135,7 @@ pub(crate) fn hashes_of(
     found: &ArgMatches<'_>,
     id: &str,
 ) -> Result<Vec<Hash>, ValueError>
-    requires { is_of_hashes id.now ≡ true }
+    requires { IsTrue (is_of_hashes id.now) }
     ensures ok { IfOk result (λ hashes. HasHashes id.now (rows_of (found_of found.now)) hashes.items) }
     ensures err { IfErr result (RefusesValue (rows_of (found_of found.now))) }
 {

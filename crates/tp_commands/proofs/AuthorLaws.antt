@@ -3,11 +3,11 @@ use Rattle.std.proofs.Common.{◌≡◌, ◌∙◌, ◌+◌, ◌==◌, ℕ, List
 use Rattle.std.proofs.lemmas.Bool.Decides.{nat_tests}
 use Rattle.std.proofs.lemmas.List.{drop_more, take-append-drop, take_more}
 use Rattle.std.specs.Prelude.{◌<◌, if◌then◌else◌}
-use Rattle.tp_change.specs.declared.parts.ChangeParts.{ChangeParts}
-use Rattle.tp_graph.specs.Fit.{count_by}
-use Rattle.tp_graph.specs.Sound.{Sound}
-use Rattle.tp_graph.proofs.CountLaws.{next_seq}
-use Rattle.tp_graph.proofs.SoundLaws.{Fits-at, Sound-prefix}
+use Rattle.tp_layout.specs.declared.parts.ChangeParts.{ChangeParts}
+use Rattle.tp_history.specs.Fit.{count_by}
+use Rattle.tp_history.specs.Sound.{Sound}
+use Rattle.tp_history.proofs.CountLaws.{next_seq}
+use Rattle.tp_history.proofs.SoundLaws.{Fits-at, Sound-prefix}
 use Rattle.tp_commands.specs.Status.{author_count_after}
 
 -- a change is its actor's first where its sequence number is 1

@@ -1,26 +1,21 @@
 -- Differences between texts, as replacements in them.
-use Rattle.std.proofs.Common.{◌≡◌, ◌∙◌, ◌<◌, ◌≤◌, ◌+◌, ◌-◌, ℕ, List, [], ◌∷◌, ◌++◌, length, get_or, map, take, drop, codes, refl, ap, subst, sym, append_assoc, length-append, arith}
-use Rattle.std.proofs.lemmas.List.{drop-drop, drop-map, length-drop, length-take-le, take-append-drop, take-map, take_more}
+use Rattle.std.proofs.Common.{◌≡◌, ◌∙◌, ◌<◌, ◌≤◌, ◌+◌, ◌-◌, ℕ, List, [], ◌∷◌, ◌++◌, length, get_or, take, drop, refl, ap, subst, sym, append_assoc, length-append, arith}
+use Rattle.std.proofs.lemmas.List.{drop-drop, length-drop, length-take-le, take-append-drop, take_more}
 use Rattle.std.proofs.Math.Seq.{drop-append-add, drop-append_seam, take-append-add, take-append_seam}
-use Rattle.std.specs.Borrow.{Bor}
-use Rattle.std.specs.List.{flat_map}
 use Rattle.tp_opid.specs.declared.hash.Hash.{Hash}
-use Rattle.tp_change.specs.declared.parts.ChangeParts.{ChangeParts}
-use Rattle.tp_edit.specs.Splices.{spliced}
-use Rattle.tp_document.proofs.ShowingLaws.{one_text}
-use Rattle.tp_document.specs.Differences.{AllInText, AllSeparate, AreDifferences, LeadsTo, after_differences}
-use Rattle.tp_document.specs.declared.differences.Difference.{Difference}
-use Rattle.tp_graph.specs.Past.{past}
-use Rattle.tp_graph.specs.Sound.{Sound}
-use Rattle.tp_graph.proofs.SoundLaws.{sound_pasts}
-use Rattle.tp_hunks.specs.Hunks.{lines_at}
+use Rattle.tp_layout.specs.declared.parts.ChangeParts.{ChangeParts}
+use Rattle.tp_edit.specs.Splices.{splice_at}
+use Rattle.tp_snapshot.proofs.ShowingLaws.{one_text}
+use Rattle.tp_snapshot.specs.Differences.{AllInText, AllSeparate, AreDifferences, LeadsTo, after_differences}
+use Rattle.tp_snapshot.specs.declared.differences.Difference.{Difference}
+use Rattle.tp_history.specs.Past.{past}
+use Rattle.tp_history.specs.Sound.{Sound}
+use Rattle.tp_history.proofs.SoundLaws.{sound_pasts}
 use Rattle.tp_hunks.specs.Lines.{LeadsText}
-use Rattle.tp_hunks.specs.declared.trimming.Hunk.{Hunk}
-use Rattle.tp_hunks.proofs.LineLists.{texts}
 use Rattle.tp_hunks.specs.declared.replacing.Replacement.{Replacement}
-use Rattle.tp_text.specs.Text.{IsTextOf}
-use Rattle.tp_commands.specs.Diff.{AreReplacementsOf, IsDiffBetween, IsDiffOf, IsReplacementOf, LeadsFrom, hunk_lines, places_line, signed_line}
-use Rattle.tp_commands.specs.Reading.{changes_at}
+use Rattle.tp_edit.specs.Text.{IsTextOf}
+use Rattle.tp_commands.specs.Diff.{AreReplacementsOf, IsDiffBetween, IsDiffOf, IsReplacementOf, LeadsFrom}
+use Rattle.tp_commands.specs.Reading.{changes_at_heads}
 
 -- one more difference, and its replacement
 pub replacements-push : (new : List ℕ) (ds : List Difference) (rs : List Replacement) (d : Difference) (r : Replacement) → AreReplacementsOf new ds rs → IsReplacementOf new d r
@@ -30,42 +25,42 @@ replacements-push new [] (x ∷ rs) d r are is = absurd are
 replacements-push new (x ∷ ds) [] d r are is = absurd are
 replacements-push new (x ∷ ds) (y ∷ rs) d r are is = (are.0, replacements-push new ds rs d r are.1 is)
 
-sound_at : (C : List ChangeParts) (hs : List Hash) → Sound C → Sound (changes_at C hs)
+sound_at : (C : List ChangeParts) (hs : List Hash) → Sound C → Sound (changes_at_heads C hs)
 sound_at C [] sound = sound
 sound_at C (h ∷ hs) sound = sound_pasts C sound (h ∷ hs)
 
 -- the texts at some heads and at others, to which the differences lead
 pub leads_from : (C : List ChangeParts) (from to : List Hash) (old new : List ℕ) (ds : List Difference) → Sound C
-    → LeadsTo (past C from) (changes_at C to) ds → IsTextOf (past C from) old → IsTextOf (changes_at C to) new → LeadsFrom old new ds
+    → LeadsTo (past C from) (changes_at_heads C to) ds → IsTextOf (past C from) old → IsTextOf (changes_at_heads C to) new → LeadsFrom old new ds
 leads_from C from to old new ds sound leads is was = record {
-  text = one_text (changes_at C to) (after_differences old ds) new (sound_at C to sound) (leads.text old is) was;
+  text = one_text (changes_at_heads C to) (after_differences old ds) new (sound_at C to sound) (leads.text old is) was;
   range = leads.range old is;
   separate = leads.separate;
 }
 
--- the same of texts and differences that are lent
+-- the differences lead from the one text to the other, where equal ones are lent
 pub leads_at : (C : List ChangeParts) (from to : List Hash) (old new old' new' : List ℕ) (ds ds' : List Difference) → Sound C
-    → LeadsTo (past C from) (changes_at C to) ds → IsTextOf (past C from) old → IsTextOf (changes_at C to) new → old' ≡ old → new' ≡ new → ds' ≡ ds
+    → LeadsTo (past C from) (changes_at_heads C to) ds → IsTextOf (past C from) old → IsTextOf (changes_at_heads C to) new → old' ≡ old → new' ≡ new → ds' ≡ ds
     → LeadsFrom old' new' ds'
 leads_at C from to old new old' new' ds ds' sound leads is was o n d = rw (o, n, d) (leads_from C from to old new ds sound leads is was)
 
 -- what is printed is between the texts at the heads
 pub diff_between : (C : List ChangeParts) (from to : List Hash) (old new old' new' printed : List ℕ) (ds ds' : List Difference)
-    → AreDifferences C (past C from) (changes_at C to) ds → IsTextOf (past C from) old → IsTextOf (changes_at C to) new → old' ≡ old → new' ≡ new → ds' ≡ ds
+    → AreDifferences C (past C from) (changes_at_heads C to) ds → IsTextOf (past C from) old → IsTextOf (changes_at_heads C to) new → old' ≡ old → new' ≡ new → ds' ≡ ds
     → IsDiffOf old' new' ds' printed → IsDiffBetween C from to printed
 diff_between C from to old new old' new' printed ds ds' are is was o n d made = record {
   old = old';
   new = new';
   old_text = subst (IsTextOf (past C from)) (sym o) is;
-  new_text = subst (IsTextOf (changes_at C to)) (sym n) was;
+  new_text = subst (IsTextOf (changes_at_heads C to)) (sym n) was;
   differences = ds';
-  are = subst (AreDifferences C (past C from) (changes_at C to)) (sym d) are;
+  are = subst (AreDifferences C (past C from) (changes_at_heads C to)) (sym d) are;
   is_diff = made;
 }
 
 -- a splice after some characters of the text
 splice_after : (done A text : List ℕ) (at del k : ℕ) → at ≡ length done + k → k + del ≤ length A
-    → spliced (done ++ A) at del text ≡ (done ++ (take k A ++ text)) ++ drop del (drop k A)
+    → splice_at (done ++ A) at del text ≡ (done ++ (take k A ++ text)) ++ drop del (drop k A)
 splice_after done A text at del k is within =
     let first : take at (done ++ A) ≡ done ++ take k A = ap (λ n. take n (done ++ A)) is ∙ take-append-add done A k in
     let there : at + del ≡ length done + (k + del) = omega arith in
@@ -93,7 +88,7 @@ leads_text (d ∷ ds) (r ∷ rs) new done A n m at le is range apart are =
     let rest_len = length-drop k A in
     let gone_len : length gone ≡ d.del = length-take-le d.del (drop k A) (omega arith) in
     let left_len = length-drop d.del (drop k A) in
-    let next : spliced (done ++ A) d.at d.del d.text ≡ (done ++ (stay ++ d.text)) ++ X = splice_after done A d.text d.at d.del k (omega (arith, apart.0)) within in
+    let next : splice_at (done ++ A) d.at d.del d.text ≡ (done ++ (stay ++ d.text)) ++ X = splice_after done A d.text d.at d.del k (omega (arith, apart.0)) within in
     let done_len : length (done ++ (stay ++ d.text)) ≡ length done + (k + length d.text) =
     length-append done (stay ++ d.text) ∙ ap (λ j. length done + j) (length-append stay d.text ∙ ap (λ j. j + length d.text) stay_len) in
     let all_len = length-append (done ++ (stay ++ d.text)) X in
@@ -129,31 +124,10 @@ replacements_lead old new ds rs leads are =
     let w = leads_text ds rs new [] old 0 0 refl (omega arith) leads.text leads.range leads.separate are in
     subst (λ (l : List ℕ). LeadsText old l 0 rs) (sym w.1) w.2
 
--- the same, of the first differences of a list
+-- one more replacement, of one more of the first differences of a list
 pub replacements_more : (new : List ℕ) (ds : List Difference) (i : ℕ) (d : Difference) (rs all : List Replacement) (r : Replacement) → i < length ds → d ≡ get_or ds i d
     → AreReplacementsOf new (take i ds) rs → IsReplacementOf new d r → all ≡ rs ++ r ∷ [] → AreReplacementsOf new (take (i + 1) ds) all
 replacements_more new ds i d rs all r lt at are is grown =
     subst (λ (l : List Replacement). AreReplacementsOf new (take (i + 1) ds) l) (sym grown)
     (subst (λ (l : List Difference). AreReplacementsOf new l (rs ++ r ∷ []))
     (ap (λ (x : Difference). take i ds ++ x ∷ []) at ∙ sym (take_more ds i d lt)) (replacements-push new (take i ds) rs d r are is))
-
--- the lines of a hunk, which are lent
-lent_lines : (at len : ℕ) (xs : List (Bor (List ℕ))) → texts (lines_at at len xs) ≡ lines_at at len (texts xs)
-lent_lines at len xs = sym (take-map (λ (l : Bor (List ℕ)). l.now) len (drop at xs)) ∙ ap (take len) (sym (drop-map (λ (l : Bor (List ℕ)). l.now) at xs))
-
-pub hunk_joined : (text before first : List ℕ) (old new gone come : List (Bor (List ℕ))) (h : Hunk)
-    → text ≡ before ++ flat_map (signed_line (codes "+")) (texts come) → before ≡ first ++ flat_map (signed_line (codes "-")) (texts gone) → first ≡ places_line h
-    → gone ≡ lines_at h.old_at h.old_len old → come ≡ lines_at h.new_at h.new_len new → text ≡ hunk_lines (texts old) (texts new) h
-hunk_joined text before first old new gone come h all most places goes comes =
-    let old_lines : texts gone ≡ lines_at h.old_at h.old_len (texts old) = ap texts goes ∙ lent_lines h.old_at h.old_len old in
-    let new_lines : texts come ≡ lines_at h.new_at h.new_len (texts new) = ap texts comes ∙ lent_lines h.new_at h.new_len new in
-    all
-    ∙ (ap (λ l. l ++ flat_map (signed_line (codes "+")) (texts come)) (most ∙ ap (λ l. l ++ flat_map (signed_line (codes "-")) (texts gone)) places)
-    ∙ (ap (λ l. (places_line h ++ flat_map (signed_line (codes "-")) l) ++ flat_map (signed_line (codes "+")) (texts come)) old_lines
-    ∙ ap (λ l. (places_line h ++ flat_map (signed_line (codes "-")) (lines_at h.old_at h.old_len (texts old))) ++ flat_map (signed_line (codes "+")) l) new_lines))
-
--- the hunks of two lists of lines that are those of the texts
-pub hunks_joined : (A A' B B' : List (List ℕ)) (hs hs' : List Hunk) → A ≡ A' → B ≡ B' → hs ≡ hs'
-    → flat_map (hunk_lines A B) hs ≡ flat_map (hunk_lines A' B') hs'
-hunks_joined A A' B B' hs hs' a b h =
-    ap (λ l. flat_map (hunk_lines l B) hs) a ∙ (ap (λ l. flat_map (hunk_lines A' l) hs) b ∙ ap (flat_map (hunk_lines A' B')) h)

@@ -12,7 +12,7 @@ use Rattle.tp_opid.specs.declared.hash.Hash.{Hash}
 use Rattle.tp_opid.specs.Order.{hash_cmp}
 use Rattle.tp_opid.specs.Same.{same_hash}
 use Rattle.tp_opid.proofs.Orders.{hash_total}
-use Rattle.tp_graph.specs.Named.{among}
+use Rattle.tp_history.specs.Named.{among}
 
 -- each hash is below the next
 next_above : (hs : List Hash) (k : ℕ) (d : Hash) → IsRising hash_cmp hs → k + 1 < length hs → hash_cmp (get_or hs k d) (get_or hs (suc k) d) ≡ Less
@@ -38,7 +38,7 @@ found_among hs h (Err i) rises le parted =
 regrouped : (a b c d e f : List ℕ) → a ++ (b ++ (c ++ (d ++ (e ++ f)))) ≡ a ++ b ++ c ++ d ++ e ++ f
 regrouped a b c d e f = simp append_assoc
 
--- the line of a node, as it is printed one part behind another
+-- the line of a node, as it is printed one part after another
 pub node_joined : (text n l b n' l' b' : List ℕ)
     → text ≡ codes "  " ++ (n ++ (codes " [label=\"" ++ (l ++ (codes "\"" ++ (b ++ codes "];\n")))))
     → n ≡ n' → l ≡ l' → b ≡ b'

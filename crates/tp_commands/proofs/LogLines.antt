@@ -15,14 +15,14 @@ use Rattle.tp_opid.specs.declared.op_id.Place.{Place}
 use Rattle.tp_opid.specs.declared.op_id.Place.TheVariants.{After}
 use Rattle.tp_change.specs.declared.op.Op.{Op}
 use Rattle.tp_change.specs.declared.op.Op.TheVariants as op_of
-use Rattle.tp_change.specs.declared.parts.ChangeParts.{ChangeParts}
-use Rattle.tp_change.specs.declared.record.Record.{Record}
-use Rattle.tp_change.specs.declared.record.Record.TheVariants.{Insert, Delete, DeleteRun}
+use Rattle.tp_layout.specs.declared.parts.ChangeParts.{ChangeParts}
+use Rattle.tp_layout.specs.declared.record.Record.{Record}
+use Rattle.tp_layout.specs.declared.record.Record.TheVariants.{Insert, Delete, DeleteRun}
 use Rattle.tp_change.specs.Elements.{deletes_in, inserts_in}
 use Rattle.tp_change.specs.Operations.{id_of, op_count, deletes_from, ops_from, ops_of, run}
 use Rattle.tp_change.proofs.ElementLaws.{deletes_in-append}
 use Rattle.tp_change.proofs.OpsLaws.{length-ops_of}
-use Rattle.tp_commands.specs.Log.{delete_count, deleted_count, escaped, inserted_count, message_part}
+use Rattle.tp_commands.specs.Log.{delete_count, deleted_count, escaped_char, inserted_count, message_part}
 
 -- each operation inserts or deletes
 inserts-and-deletes : (ops : List Op) → length (inserts_in ops) + length (deletes_in ops) ≡ length ops
@@ -78,7 +78,7 @@ deleted_is c = length-deletes_in c.actor c.start c.records
 pub given : {A E : Type 0} (r : Result A E) (x : A) (P : A → Type 0) → r ≡ Ok x → IfOk r P → P x
 given {A} {E} r x P is h = subst (λ (s : Result A E). IfOk s P) is h
 
--- the fields, as they are printed one behind another
+-- the fields, as they are printed one after another
 pub joined : (text h a : List ℕ) (s t i d : ℕ) (h' a' : List ℕ) (s' t' i' d' : ℕ)
     → text ≡ h ++ (codes " " ++ (a ++ (codes " " ++ (decimal s ++ (codes " " ++ (decimal t ++ (codes " +" ++ (decimal i ++ (codes " -" ++ decimal d)))))))))
     → h ≡ h' → a ≡ a' → s ≡ s' → t ≡ t' → i ≡ i' → d ≡ d'
@@ -87,7 +87,7 @@ joined text h a s t i d h' a' s' t' i' d' spelled hs actors ss ts is ds =
     rw (← hs, ← actors, ← ss, ← ts, ← is, ← ds) (spelled ∙ simp append_assoc)
 
 -- a control character and the backslash are escaped
-pub is_escaped : (ch : ℕ) (control : Bool) → control ≡ is_control ch → (control ≡ true) ⊎ ((control ≡ false) × (ch ≡ 92)) → encode_utf8_all (escape_default ch) ≡ escaped ch
+pub is_escaped : (ch : ℕ) (control : Bool) → control ≡ is_control ch → (control ≡ true) ⊎ ((control ≡ false) × (ch ≡ 92)) → encode_utf8_all (escape_default ch) ≡ escaped_char ch
 is_escaped ch control is (inl control_is) =
     sym (ap (λ t. encode_utf8_all (cond (t || ch == backslash) (escape_default ch) (ch ∷ []))) (sym is ∙ control_is))
 is_escaped ch control is (inr other) =
@@ -100,6 +100,6 @@ message_none [] none = ap message_part chars-nil
 message_none (b ∷ bs) none = absurd (omega (arith, eqb-true (length (b ∷ bs)) 0 none))
 
 -- what is printed of a message that isn't empty
-pub message_given : (cs bs : List ℕ) → encode_utf8_all cs ≡ bs → (length bs == 0) ≡ false → message_part cs ≡ codes " " ++ flat_map escaped cs
+pub message_given : (cs bs : List ℕ) → encode_utf8_all cs ≡ bs → (length bs == 0) ≡ false → message_part cs ≡ codes " " ++ flat_map escaped_char cs
 message_given [] bs spelled some = absurd (let no : (length (encode_utf8_all []) == 0) ≡ false = subst (λ (b : List ℕ). (length b == 0) ≡ false) (sym spelled) some in cc)
 message_given (ch ∷ rest) bs spelled some = refl

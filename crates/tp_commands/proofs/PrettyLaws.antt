@@ -3,7 +3,7 @@ use Rattle.std.proofs.Common.{◌≡◌, ◌∙◌, ◌<◌, ◌≤◌, ◌+◌,
 use Rattle.std.proofs.lemmas.List.{drop_more}
 use Rattle.std.specs.Fmt.{decimal}
 use mathlib.Core.List.{reverse-cons}
-use Rattle.tp_change.specs.declared.parts.ChangeParts.{ChangeParts}
+use Rattle.tp_layout.specs.declared.parts.ChangeParts.{ChangeParts}
 use Rattle.tp_commands.specs.Pretty.{ArePrettyLines, IsPrettyLine}
 
 -- one more line, of one more change
@@ -13,7 +13,7 @@ pretty-push [] c lines line more are is grown = (line, [], grown ∙ (ap (λ l. 
 pretty-push (x ∷ C) c lines line more are is grown =
     (are.0, are.1 ++ line, grown ∙ (ap (λ l. l ++ line) are.2 ∙ append_assoc are.0 are.1 line), are.3, pretty-push C c are.1 line (are.1 ++ line) are.4 is refl)
 
--- the same, of the changes from one further to the front on
+-- one more line, of the changes from one further to the front on
 pub pretty_back : (C : List ChangeParts) (left : ℕ) (d c : ChangeParts) (lines line more : List ℕ) → 0 < left → left ≤ length C → c ≡ get_or C (left - 1) d
     → ArePrettyLines (reverse (drop left C)) lines → IsPrettyLine c line → more ≡ lines ++ line → ArePrettyLines (reverse (drop (left - 1) C)) more
 pretty_back C left d c lines line more some within at are is grown =
@@ -23,7 +23,7 @@ pretty_back C left d c lines line more some within at are is grown =
     subst (λ (l : List ChangeParts). ArePrettyLines l more) (sym (ap reverse all ∙ reverse-cons c (drop left C)))
     (pretty-push (reverse (drop left C)) c lines line more are is grown)
 
--- the fields, as they are printed one behind another
+-- the fields, as they are printed one after another
 pub pretty_joined : (text h d a : List ℕ) (i e : ℕ) (h' a' : List ℕ) (i' e' : ℕ)
     → text ≡ h ++ (codes " " ++ (d ++ (codes " " ++ (a ++ (codes " +" ++ (decimal i ++ (codes " -" ++ decimal e)))))))
     → h ≡ h' → a ≡ a' → i ≡ i' → e ≡ e'

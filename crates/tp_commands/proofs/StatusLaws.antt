@@ -1,15 +1,15 @@
--- What `status` prints, as it is printed one part behind another, and what it is of.
+-- What `status` prints, as it is printed one part after another, and what it is of.
 use Rattle.std.proofs.Common.{◌≡◌, ◌∙◌, ◌<◌, ◌^◌, ◌+◌, ℕ, List, [], ◌∷◌, ◌++◌, ap, append_assoc, codes, length, length-append, subst, arith}
 use Rattle.std.specs.Fmt.{decimal}
 use Rattle.hex.specs.Hex.{encode_lower}
 use Rattle.tp_opid.specs.declared.doc_id.DocId.{DocId}
-use Rattle.tp_change.specs.declared.parts.ChangeParts.{ChangeParts}
-use Rattle.tp_document.specs.Showing.{HasLength}
-use Rattle.tp_journal.specs.Recovery.{HasTail, Recovers}
-use Rattle.tp_journal.proofs.PieceLaws.{journal_fits}
+use Rattle.tp_layout.specs.declared.parts.ChangeParts.{ChangeParts}
+use Rattle.tp_snapshot.specs.Showing.{HasLength}
+use Rattle.tp_recovery.specs.Recovery.{HasTail, Recovers}
+use Rattle.tp_recovery.proofs.PieceLaws.{journal_fits}
 use Rattle.tp_commands.specs.declared.status.Lock.{Lock}
-use Rattle.tp_commands.specs.Reading.{line}
 use Rattle.tp_commands.specs.Status.{IsStatus, status_text}
+use Rattle.tp_list.specs.Bytes.{line}
 
 pub document_joined : (text i : List ℕ) (changes authors characters : ℕ) (i' : List ℕ) (changes' authors' : ℕ)
     → text ≡ codes "document " ++ (i ++ (codes "changes " ++ (decimal changes ++ (codes "\nauthors " ++ (decimal authors ++ (codes "\ncharacters " ++ (decimal characters ++ codes "\n")))))))
@@ -36,9 +36,9 @@ journal_small bytes id C keep is = let fits = journal_fits id C is.is_id is.hist
 -- what was recovered is what the lines are of
 pub status_is : (bytes tail printed : List ℕ) (id : DocId) (C : List ChangeParts) (keep rest characters : ℕ) (lock : Lock) → Recovers bytes id C keep → HasTail bytes keep tail
     → rest ≡ length tail → HasLength C characters → printed ≡ status_text id C characters (keep + rest) keep lock → IsStatus bytes lock printed
-status_is bytes tail printed id C keep rest characters lock is behind few has spelled =
+status_is bytes tail printed id C keep rest characters lock is beyond few has spelled =
     let size : keep + rest ≡ length bytes =
-    let parts = ap length behind.split ∙ length-append behind.kept tail in omega (arith, behind.size) in
+    let parts = ap length beyond.split ∙ length-append beyond.kept tail in omega (arith, beyond.size) in
     record {
       id = id;
       changes = C;

@@ -7,35 +7,35 @@ use Rattle.std.proofs.lemmas.Bool.{eqb-true}
 use Rattle.std.proofs.lemmas.List.{drop-drop, length-drop, nil_from_length, take-append-drop, take_all}
 use Rattle.std.proofs.lemmas.List.Elements.{All-cons, All-drop, All-head, All-nil}
 use Rattle.std.proofs.lemmas.Str.{chars-nil}
-use Rattle.tp_change.specs.declared.parts.ChangeParts.{ChangeParts}
+use Rattle.tp_layout.specs.declared.parts.ChangeParts.{ChangeParts}
 use Rattle.tp_change.specs.ChangeHash.{hash_of}
-use Rattle.tp_change.specs.declared.limits.TheConstants.{MAX_OPS}
-use Rattle.tp_diff.specs.Differences.{AreApart, start_after}
-use Rattle.tp_document.specs.Editing.{AsksNothing, DoesSplices, Edited, asking}
+use Rattle.tp_layout.specs.declared.limits.TheConstants.{MAX_OPS}
+use Rattle.tp_diff.specs.Differences.{AreSpaced, start_after}
+use Rattle.tp_document.specs.Editing.{AsksNothing, DoesSplices, IsAcceptedEdit, asking}
 use Rattle.tp_edit.specs.declared.splice.Splice.{Splice}
-use Rattle.tp_edit.specs.Splices.{all_spliced, count_of, inserted, spliced, total_count}
-use Rattle.tp_journal.specs.Layout.{journal}
+use Rattle.tp_edit.specs.Splices.{all_spliced, count_of_splice, inserted_chars, splice_at, total_count}
+use Rattle.tp_recovery.specs.Layout.{journal}
 use Rattle.tp_opid.specs.declared.actor.Actor.{Actor}
 use Rattle.tp_opid.specs.declared.hash.Hash.{Hash}
 use Rattle.tp_peer.specs.Appending.{JournalState}
 use Rattle.tp_peer.specs.declared.error.PeerError.TheVariants.{Stopped}
 use Rattle.tp_peer.specs.Opening.{Reopens}
-use Rattle.tp_peer.specs.PeerData.{HasJournal, PeerData, opened}
-use Rattle.tp_peer.specs.PeerStep.{Edit, Made, PeerStep, Refused, Reply, Runs, entered}
-use Rattle.tp_text.specs.Text.{IsTextOf}
+use Rattle.tp_peer.specs.PeerState.{HasJournal, PeerState, opened_peer}
+use Rattle.tp_peer.specs.PeerStep.{Edit, Made, PeerStep, Refused, Reply, Runs, peer_with_change}
+use Rattle.tp_edit.specs.Text.{IsTextOf}
 use Rattle.tp_commands.specs.Updating.{AreEditsOf, IsFullBefore, LeadOn, MakesNext, MakesText, UpdatesJournal, hashes_of}
 
 edits-push : (actor : Actor) (time : ℕ) (message : List ℕ) (C cs : List ChangeParts) (c : ChangeParts) (ss next later : List Splice) → AreEditsOf actor time message C ss (next ++ later) cs → IsFullBefore next later
-    → Edited (C ++ cs) (asking actor next time message) c → AreEditsOf actor time message C ss later (cs ++ c ∷ [])
+    → IsAcceptedEdit (C ++ cs) (asking actor next time message) c → AreEditsOf actor time message C ss later (cs ++ c ∷ [])
 edits-push actor time message C [] c ss next later h full e =
-    (next, later, h, full, subst (λ (D : List ChangeParts). Edited D (asking actor next time message) c) (append-nil C) e, refl)
+    (next, later, h, full, subst (λ (D : List ChangeParts). IsAcceptedEdit D (asking actor next time message) c) (append-nil C) e, refl)
 edits-push actor time message C (x ∷ cs) c ss next later h full e = (
   h.0,
   h.1,
   h.2,
   h.3,
   h.4,
-  edits-push actor time message (C ++ x ∷ []) cs c h.1 next later h.5 full (subst (λ (D : List ChangeParts). Edited D (asking actor next time message) c) (sym (append_assoc C (x ∷ []) cs)) e),
+  edits-push actor time message (C ++ x ∷ []) cs c h.1 next later h.5 full (subst (λ (D : List ChangeParts). IsAcceptedEdit D (asking actor next time message) c) (sym (append_assoc C (x ∷ []) cs)) e),
 )
 
 -- of no splices no edit is made
@@ -43,7 +43,7 @@ none_of_none : (actor : Actor) (time : ℕ) (message : List ℕ) (C cs : List Ch
 none_of_none actor time message C [] h = refl
 none_of_none actor time message C (c ∷ cs) h = absurd (no_edit h.0 h.1 h.2 h.4)
   where
-    no_edit : (next later : List Splice) → [] ≡ next ++ later → Edited C (asking actor next time message) c → ⊥
+    no_edit : (next later : List Splice) → [] ≡ next ++ later → IsAcceptedEdit C (asking actor next time message) c → ⊥
     no_edit [] later is e = omega (arith, e.some)
     no_edit (s ∷ next) later is e = absurd (cc)
 
@@ -70,31 +70,31 @@ hashes-push (x ∷ cs) c = ap (λ hs. hash_of x ∷ hs) (hashes-push cs c)
 
 -- a peer that runs runs a call
 
-runs_edit : (q p' : PeerData) (ss : List Splice) (time : ℕ) (message : List ℕ) (reply : Reply) → q.stopped ≡ false → PeerStep q (Edit ss time message) reply p' → Runs q (Edit ss time message) reply p'
+runs_edit : (q p' : PeerState) (ss : List Splice) (time : ℕ) (message : List ℕ) (reply : Reply) → q.stopped ≡ false → PeerStep q (Edit ss time message) reply p' → Runs q (Edit ss time message) reply p'
 unfolding PeerStep
 runs_edit q p' ss time message reply running step = subst (λ (b : Bool). MatchBool b ((reply ≡ Refused Stopped) × (p' ≡ q)) (Runs q (Edit ss time message) reply p')) running step
 
 -- an edit that made a change
-pub makes_one : (q q' : PeerData) (next : List Splice) (time : ℕ) (message : List ℕ) (hashes : List Hash) (h : Hash) → PeerStep q (Edit next time message) (Made (Some h)) q' → MakesNext next time message hashes q (hashes ++ h ∷ []) q'
+pub makes_one : (q q' : PeerState) (next : List Splice) (time : ℕ) (message : List ℕ) (hashes : List Hash) (h : Hash) → PeerStep q (Edit next time message) (Made (Some h)) q' → MakesNext next time message hashes q (hashes ++ h ∷ []) q'
 makes_one q q' next time message hashes h step p ss later before full =
-    let done : (c : ChangeParts) × Edited q.applied (asking q.actor next time message) c × (h ≡ hash_of c) × (q' ≡ entered q c) =
+    let done : (c : ChangeParts) × IsAcceptedEdit q.applied (asking q.actor next time message) c × (h ≡ hash_of c) × (q' ≡ peer_with_change q c) =
     runs_edit q q' next time message (Made (Some h)) before.running step in
     let c = done.0 in
-    let by : Edited q.applied (asking p.actor next time message) c = subst (λ (a : Actor). Edited q.applied (asking a next time message) c) before.same_actor done.1 in
-    let on : Edited (p.applied ++ before.made) (asking p.actor next time message) c =
-    subst (λ (D : List ChangeParts). Edited D (asking p.actor next time message) c) before.applied by in
+    let by : IsAcceptedEdit q.applied (asking p.actor next time message) c = subst (λ (a : Actor). IsAcceptedEdit q.applied (asking a next time message) c) before.same_actor done.1 in
+    let on : IsAcceptedEdit (p.applied ++ before.made) (asking p.actor next time message) c =
+    subst (λ (D : List ChangeParts). IsAcceptedEdit D (asking p.actor next time message) c) before.applied by in
     record {
       made = before.made ++ c ∷ [];
       edits = edits-push p.actor time message p.applied before.made c ss next later before.edits full on;
       hashes_are = ap (λ hs. hs ++ h ∷ []) before.hashes_are ∙ ap (λ x. hashes_of before.made ++ x ∷ []) done.2 ∙ sym (hashes-push before.made c);
-      applied = ap (λ (x : PeerData). x.applied) done.3 ∙ ap (λ D. D ++ c ∷ []) before.applied ∙ append_assoc p.applied before.made (c ∷ []);
-      running = ap (λ (x : PeerData). x.stopped) done.3 ∙ before.running;
-      same_id = ap (λ (x : PeerData). x.id) done.3 ∙ before.same_id;
-      same_actor = ap (λ (x : PeerData). x.actor) done.3 ∙ before.same_actor;
+      applied = ap (λ (x : PeerState). x.applied) done.3 ∙ ap (λ D. D ++ c ∷ []) before.applied ∙ append_assoc p.applied before.made (c ∷ []);
+      running = ap (λ (x : PeerState). x.stopped) done.3 ∙ before.running;
+      same_id = ap (λ (x : PeerState). x.id) done.3 ∙ before.same_id;
+      same_actor = ap (λ (x : PeerState). x.actor) done.3 ∙ before.same_actor;
     }
 
 -- an edit of splices with operations asks something
-pub makes_no_less : (q q' : PeerData) (next : List Splice) (time : ℕ) (message : List ℕ) (hashes : List Hash) → 0 < total_count next → PeerStep q (Edit next time message) (Made None) q' → MakesNext next time message hashes q hashes q'
+pub makes_no_less : (q q' : PeerState) (next : List Splice) (time : ℕ) (message : List ℕ) (hashes : List Hash) → 0 < total_count next → PeerStep q (Edit next time message) (Made None) q' → MakesNext next time message hashes q hashes q'
 makes_no_less q q' next time message hashes some step p ss later before full =
     let done : AsksNothing q.applied (asking q.actor next time message) × (q' ≡ q) = runs_edit q q' next time message (Made None) before.running step in
     absurd (omega (arith, some, done.0.1))
@@ -103,7 +103,7 @@ makes_no_less q q' next time message hashes some step p ss later before full =
 
 all_spliced-append : (t : List ℕ) (ss rs : List Splice) → all_spliced t (ss ++ rs) ≡ all_spliced (all_spliced t ss) rs
 all_spliced-append t [] rs = refl
-all_spliced-append t (s ∷ ss) rs = all_spliced-append (spliced t s.at s.del (inserted s)) ss rs
+all_spliced-append t (s ∷ ss) rs = all_spliced-append (splice_at t s.at s.del (inserted_chars s)) ss rs
 
 -- the splices from a place on are those up to the next place, and the ones from there on
 pub ahead_is : (ss : List Splice) (from len : ℕ) → drop from ss ≡ take (from + len - from) (drop from ss) ++ drop (from + len) ss
@@ -131,17 +131,17 @@ full_ahead ss from len full =
     let here : IsFullBefore (take len (drop from ss)) (drop len (drop from ss)) = subst (λ (rest : List Splice). IsFullBefore (take len rest) (drop len rest)) (slice_is ss from) full in
     subst (λ n. IsFullBefore (take n (drop from ss)) (drop (from + len) ss)) (sym same) (subst (IsFullBefore (take len (drop from ss))) (drop-drop len from ss) here)
 
-some_next : (ss : List Splice) (n : ℕ) → All (λ s. 0 < count_of s) ss → 0 < n → 0 < length ss → 0 < total_count (take n ss)
+some_next : (ss : List Splice) (n : ℕ) → All (λ s. 0 < count_of_splice s) ss → 0 < n → 0 < length ss → 0 < total_count (take n ss)
 some_next [] n some more is = absurd (omega (arith, is))
 some_next (s ∷ ss) zero some more is = absurd (omega (arith, more))
-some_next (s ∷ ss) (suc n) some more is = let first = All-head (λ x. 0 < count_of x) s ss some in omega (arith, first)
+some_next (s ∷ ss) (suc n) some more is = let first = All-head (λ x. 0 < count_of_splice x) s ss some in omega (arith, first)
 
 -- they have operations
-pub some_ahead : (ss : List Splice) (from len : ℕ) → All (λ s. 0 < count_of s) ss → 0 < len → from < length ss → 0 < total_count (take (from + len - from) (drop from ss))
+pub some_ahead : (ss : List Splice) (from len : ℕ) → All (λ s. 0 < count_of_splice s) ss → 0 < len → from < length ss → 0 < total_count (take (from + len - from) (drop from ss))
 some_ahead ss from len some more within =
     let same : from + len - from ≡ len = omega arith in
     let rest = length-drop from ss in
-    subst (λ n. 0 < total_count (take n (drop from ss))) (sym same) (some_next (drop from ss) len (All-drop (λ s. 0 < count_of s) from ss some) more (omega (arith, rest, within)))
+    subst (λ n. 0 < total_count (take n (drop from ss))) (sym same) (some_next (drop from ss) len (All-drop (λ s. 0 < count_of_splice s) from ss some) more (omega (arith, rest, within)))
 
 -- what is left leads on, once the next of it were done
 pub leads_later : (C D E : List ChangeParts) (ss rest next later : List Splice) → rest ≡ next ++ later → LeadOn C D ss rest → DoesSplices D E next → LeadOn C E ss later
@@ -154,19 +154,19 @@ leads_later C D E ss rest next later is before does text was =
 
 -- ---- groups of splices
 
-pub all_some : (most from : ℕ) (ss : List Splice) → AreApart most from ss → All (λ s. 0 < count_of s) ss
-all_some most from [] apart = All-nil (λ s. 0 < count_of s)
-all_some most from (s ∷ ss) apart = All-cons (λ x. 0 < count_of x) s ss apart.1 (all_some most (start_after most s) ss apart.3)
+pub all_some : (most from : ℕ) (ss : List Splice) → AreSpaced most from ss → All (λ s. 0 < count_of_splice s) ss
+all_some most from [] apart = All-nil (λ s. 0 < count_of_splice s)
+all_some most from (s ∷ ss) apart = All-cons (λ x. 0 < count_of_splice x) s ss apart.1 (all_some most (start_after most s) ss apart.3)
 
 -- ---- journals
 
 -- a text that was the other already was made by no change
-none_made : (p after : PeerData) (text : List ℕ) (time : ℕ) (message : List ℕ) (hashes : List Hash) (m : MakesText p text time message hashes after) → m.old ≡ text → m.makes.made ≡ []
+none_made : (p after : PeerState) (text : List ℕ) (time : ℕ) (message : List ℕ) (hashes : List Hash) (m : MakesText p text time message hashes after) → m.old ≡ text → m.makes.made ≡ []
 none_made p after text time message hashes m same =
     none_of_none p.actor time message p.applied m.makes.made (subst (λ (ss : List Splice). AreEditsOf p.actor time message p.applied ss [] m.makes.made) (m.leads.same same) m.makes.edits)
 
 -- by differences whose operations fit into one change it was made by one
-one_made : (p after : PeerData) (text : List ℕ) (time : ℕ) (message : List ℕ) (hashes : List Hash) (m : MakesText p text time message hashes after) → total_count m.differences ≤ MAX_OPS → length m.makes.made ≤ 1
+one_made : (p after : PeerState) (text : List ℕ) (time : ℕ) (message : List ℕ) (hashes : List Hash) (m : MakesText p text time message hashes after) → total_count m.differences ≤ MAX_OPS → length m.makes.made ≤ 1
 one_made p after text time message hashes m few = one_of_few p.actor time message p.applied m.differences m.makes.made m.makes.edits few
 
 -- a text of no bytes is no text
@@ -175,11 +175,11 @@ no_text true bytes e is = ap chars (nil_from_length bytes (eqb-true (length byte
 no_text false bytes e is = absurd (cc)
 
 -- the journal of a peer that was opened on one and whose text was made another one
-pub updates_of : (k : JournalState) (actor : Actor) (p after : PeerData) (text : List ℕ) (time : ℕ) (message : List ℕ) (hashes : List Hash) (bytes : List ℕ)
+pub updates_of : (k : JournalState) (actor : Actor) (p after : PeerState) (text : List ℕ) (time : ℕ) (message : List ℕ) (hashes : List Hash) (bytes : List ℕ)
     → Reopens k actor p → MakesText p text time message hashes after → HasJournal after.stopped after.id after.applied bytes → UpdatesJournal k.content actor text time message hashes bytes
 updates_of k actor p after text time message hashes bytes r made has =
-    let q : PeerData = opened r.id actor r.applied k.device in
-    let m : MakesText q text time message hashes after = subst (λ (x : PeerData). MakesText x text time message hashes after) r.is made in
+    let q : PeerState = opened_peer r.id actor r.applied k.device in
+    let m : MakesText q text time message hashes after = subst (λ (x : PeerState). MakesText x text time message hashes after) r.is made in
     let kept : HasJournal false after.id after.applied bytes = subst (λ (b : Bool). HasJournal b after.id after.applied bytes) m.makes.running has in
     record {
       id = r.id;

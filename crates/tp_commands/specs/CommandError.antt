@@ -32,20 +32,20 @@ abbrev pub refusal_of_peer : PeerError → CommandError
 refusal_of_peer peer.OutOfMemory = OutOfMemory
 refusal_of_peer e = Peer e
 
-abbrev pub refusal_of_document : DocError → CommandError
-refusal_of_document doc.OutOfMemory = OutOfMemory
-refusal_of_document e = Doc e
+abbrev pub command_refusal_of_document : DocError → CommandError
+command_refusal_of_document doc.OutOfMemory = OutOfMemory
+command_refusal_of_document e = Doc e
 
 abbrev pub refusal_of_opening : OpenError → CommandError
 refusal_of_opening open_error.Busy = Busy
 refusal_of_opening open_error.Io = Io
 refusal_of_opening open_error.OutOfMemory = OutOfMemory
 
-abbrev pub refusal_of_journal : JournalError → CommandError
-refusal_of_journal journal.Io = Io
-refusal_of_journal journal.OutOfMemory = OutOfMemory
+abbrev pub command_refusal_of_journal : JournalError → CommandError
+command_refusal_of_journal journal.Io = Io
+command_refusal_of_journal journal.OutOfMemory = OutOfMemory
 
-abbrev pub refusal_of_bytes : StoreError → CommandError
-refusal_of_bytes store.Io = Io
-refusal_of_bytes store.OutOfMemory = OutOfMemory
-refusal_of_bytes e = Store e
+abbrev pub command_refusal_of_bytes : StoreError → CommandError
+command_refusal_of_bytes store.Io = Io
+command_refusal_of_bytes store.OutOfMemory = OutOfMemory
+command_refusal_of_bytes e = Store e

@@ -1,41 +1,20 @@
 -- What `diff` prints: which lines of one text become which lines of another.
-use Rattle.std.specs.Prelude.{◌≡◌, ℕ, ◌+◌, ◌==◌, List, [], ◌∷◌, ◌++◌, codes, drop, encode_utf8, if◌then◌else◌, length, take}
-use Rattle.std.specs.Fmt.{decimal}
+use Rattle.std.specs.Prelude.{◌≡◌, List, [], ◌∷◌, ℕ, drop, length, take}
 use Rattle.std.specs.List.{flat_map}
 use Rattle.tp_opid.specs.declared.hash.Hash.{Hash}
-use Rattle.tp_change.specs.declared.parts.ChangeParts.{ChangeParts}
-use Rattle.tp_document.specs.Differences.{AllInText, AllSeparate, AreDifferences, after_differences}
-use Rattle.tp_document.specs.declared.differences.Difference.{Difference}
-use Rattle.tp_graph.specs.Past.{past}
-use Rattle.tp_hunks.specs.Hunks.{AreHunks, lines_at}
+use Rattle.tp_layout.specs.declared.parts.ChangeParts.{ChangeParts}
+use Rattle.tp_snapshot.specs.Differences.{AllInText, AllSeparate, AreDifferences, after_differences}
+use Rattle.tp_snapshot.specs.declared.differences.Difference.{Difference}
+use Rattle.tp_history.specs.Past.{past}
+use Rattle.tp_hunks.specs.Hunks.{AreHunks}
 use Rattle.tp_hunks.specs.Lines.{lines_of_text}
+use Rattle.tp_hunks.specs.Printing.{hunk_lines}
 use Rattle.tp_hunks.specs.declared.replacing.Replacement.{Replacement}
 use Rattle.tp_hunks.specs.declared.trimming.Hunk.{Hunk}
-use Rattle.tp_text.specs.Text.{IsTextOf}
-use Rattle.tp_commands.specs.Reading.{HasChanges, changes_at, line}
+use Rattle.tp_edit.specs.Text.{IsTextOf}
+use Rattle.tp_commands.specs.Reading.{HasChanges, changes_at_heads}
 
--- the number of the first of so many lines, from 1: of no line that of the line before it
-abbrev pub first_number : ℕ → ℕ → ℕ
-first_number at len = if len == 0 then at else at + 1
-
--- that number, and how many lines they are
-abbrev pub place_text : ℕ → ℕ → List ℕ
-place_text at len = decimal (first_number at len) ++ (codes "," ++ decimal len)
-
--- a line after a sign
-abbrev pub signed_line : List ℕ → List ℕ → List ℕ
-signed_line sign text = line (sign ++ flat_map encode_utf8 text)
-
--- the line of the places of a hunk
-abbrev pub places_line : Hunk → List ℕ
-places_line h = line (codes "@@ -" ++ place_text h.old_at h.old_len ++ codes " +" ++ place_text h.new_at h.new_len ++ codes " @@")
-
--- a hunk of two lists of lines: its places, the lines that go, each after a `-`, and those that come, each after a `+`
-abbrev pub hunk_lines : List (List ℕ) → List (List ℕ) → Hunk → List ℕ
-hunk_lines old new h =
-    places_line h ++ flat_map (signed_line (codes "-")) (lines_at h.old_at h.old_len old) ++ flat_map (signed_line (codes "+")) (lines_at h.new_at h.new_len new)
-
--- the replacement is what the difference does to a text, of which it leaves this one
+-- the replacement is what the difference does to a text, where it leaves this one
 pub record IsReplacementOf (new : List ℕ) (d : Difference) (r : Replacement) : Type 0 where
   pub at : r.at ≡ d.at
   pub del : r.del ≡ d.del
@@ -70,9 +49,9 @@ pub record IsDiffBetween (C : List ChangeParts) (from to : List Hash) (printed :
   pub old : List ℕ
   pub new : List ℕ
   pub old_text : IsTextOf (past C from) old
-  pub new_text : IsTextOf (changes_at C to) new
+  pub new_text : IsTextOf (changes_at_heads C to) new
   pub differences : List Difference
-  pub are : AreDifferences C (past C from) (changes_at C to) differences
+  pub are : AreDifferences C (past C from) (changes_at_heads C to) differences
   pub is_diff : IsDiffOf old new differences printed
 
 -- It is so of a journal's changes.

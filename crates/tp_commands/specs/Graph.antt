@@ -6,9 +6,9 @@ use Rattle.std.specs.Str.{chars}
 use Rattle.hex.specs.Hex.{encode_lower}
 use Rattle.tp_opid.specs.declared.hash.Hash.{Hash}
 use Rattle.tp_change.specs.ChangeHash.{hash_of}
-use Rattle.tp_change.specs.declared.parts.ChangeParts.{ChangeParts}
-use Rattle.tp_graph.specs.Heads.{heads}
-use Rattle.tp_graph.specs.Named.{among}
+use Rattle.tp_layout.specs.declared.parts.ChangeParts.{ChangeParts}
+use Rattle.tp_history.specs.Heads.{heads}
+use Rattle.tp_history.specs.Named.{among}
 use Rattle.tp_commands.specs.Log.{deleted_count, inserted_count, message_part}
 use Rattle.tp_commands.specs.Reading.{HasChanges}
 

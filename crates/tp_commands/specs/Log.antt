@@ -8,10 +8,11 @@ use Rattle.hex.specs.Hex.{encode_lower}
 use Rattle.tp_change.specs.ChangeHash.{hash_of}
 use Rattle.tp_change.specs.Elements.{deletes_in, inserts_in}
 use Rattle.tp_change.specs.Operations.{ops_of}
-use Rattle.tp_change.specs.declared.parts.ChangeParts.{ChangeParts}
-use Rattle.tp_change.specs.declared.record.Record.{Record}
-use Rattle.tp_change.specs.declared.record.Record.TheVariants.{Insert, Delete, DeleteRun}
-use Rattle.tp_commands.specs.Reading.{HasChanges, line}
+use Rattle.tp_layout.specs.declared.parts.ChangeParts.{ChangeParts}
+use Rattle.tp_layout.specs.declared.record.Record.{Record}
+use Rattle.tp_layout.specs.declared.record.Record.TheVariants.{Insert, Delete, DeleteRun}
+use Rattle.tp_commands.specs.Reading.{HasChanges}
+use Rattle.tp_list.specs.Bytes.{line}
 
 -- how many of a change's operations insert a character
 abbrev pub inserted_count : ChangeParts → ℕ
@@ -21,7 +22,7 @@ inserted_count c = length (inserts_in (ops_of c))
 abbrev pub deleted_count : ChangeParts → ℕ
 deleted_count c = length (deletes_in (ops_of c))
 
--- the same of one record
+-- how many operations of a record delete a character
 abbrev pub delete_count : Record → ℕ
 delete_count (Insert after text) = 0
 delete_count (Delete target) = 1
@@ -29,13 +30,13 @@ delete_count (DeleteRun first count) = count
 
 -- The bytes of a message's character: a control character and the backslash as Rust escapes them (`\n`, `\\`,
 -- `\u{7f}`), each other as it is. So a message stays in its line.
-abbrev pub escaped : ℕ → List ℕ
-escaped ch = encode_utf8_all (if is_control ch || ch == backslash then escape_default ch else ch ∷ [])
+abbrev pub escaped_char : ℕ → List ℕ
+escaped_char ch = encode_utf8_all (if is_control ch || ch == backslash then escape_default ch else ch ∷ [])
 
--- what stands behind the counts: of an empty message nothing, of another a blank and its characters
+-- what is after the counts: of an empty message nothing, of another a blank and its characters
 abbrev pub message_part : List ℕ → List ℕ
 message_part [] = []
-message_part (ch ∷ rest) = codes " " ++ flat_map escaped (ch ∷ rest)
+message_part (ch ∷ rest) = codes " " ++ flat_map escaped_char (ch ∷ rest)
 
 -- the hash, the actor, the sequence number, the time, and what the change inserts and deletes
 abbrev pub fields_part : ChangeParts → List ℕ
@@ -47,7 +48,7 @@ fields_part c =
 abbrev pub change_line : ChangeParts → List ℕ
 change_line c = line (fields_part c ++ message_part c.message)
 
--- the newest of the changes, which entered last: so many, or all where they are fewer
+-- the newest of the changes, which entered last: `most`, or all where they are fewer
 abbrev pub newest : ℕ → List ChangeParts → List ChangeParts
 newest most C = drop (length C - most) C
 

@@ -7,9 +7,10 @@ use Rattle.jiff_core.specs.declared.civil.date.Date.{Date}
 use Rattle.jiff_core.specs.declared.civil.datetime.DateTime.{DateTime}
 use Rattle.jiff_core.specs.declared.civil.time.Time.{Time}
 use Rattle.tp_change.specs.ChangeHash.{hash_of}
-use Rattle.tp_change.specs.declared.parts.ChangeParts.{ChangeParts}
+use Rattle.tp_layout.specs.declared.parts.ChangeParts.{ChangeParts}
 use Rattle.tp_commands.specs.Log.{deleted_count, inserted_count, message_part, newest}
-use Rattle.tp_commands.specs.Reading.{HasChanges, line}
+use Rattle.tp_commands.specs.Reading.{HasChanges}
+use Rattle.tp_list.specs.Bytes.{line}
 
 abbrev pub two_digits : ℕ → List ℕ
 two_digits n = decimal (n / 10) ++ decimal (n % 10)
@@ -26,8 +27,8 @@ clock_text t = two_digits t.hour ++ codes ":" ++ two_digits t.minute ++ codes ":
 abbrev pub last_second : ℕ
 last_second = 253402300799
 
--- The text is the date and the time of day in UTC that are so many seconds after 1970 began; `-` for none; and the number
--- itself after the year 9999.
+-- The text is the date and the time of day in UTC that are that many seconds after 1970 began; `-` for none; and the
+-- number itself after the year 9999.
 abbrev pub IsDateText : ℕ → List ℕ → Type 0
 IsDateText seconds text = ((seconds ≡ 0) × (text ≡ codes "-"))
     ⊎ (((0 < seconds) × (seconds ≤ last_second) × ((dt : DateTime) × (civil_nanos dt ≡ pos seconds *ℤ pos 1000000000) × (text ≡ day_text dt.date ++ codes " " ++ clock_text dt.time)))

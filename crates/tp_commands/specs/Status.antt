@@ -5,14 +5,15 @@ use Rattle.std.specs.List.{flat_map}
 use Rattle.hex.specs.Hex.{encode_lower}
 use Rattle.tp_opid.specs.declared.doc_id.DocId.{DocId}
 use Rattle.tp_opid.specs.declared.hash.Hash.{Hash}
-use Rattle.tp_change.specs.declared.parts.ChangeParts.{ChangeParts}
-use Rattle.tp_graph.specs.Fit.{count_by}
-use Rattle.tp_graph.specs.Heads.{heads}
-use Rattle.tp_journal.specs.Recovery.{Recovers}
-use Rattle.tp_text.specs.Text.{IsTextOf}
+use Rattle.tp_layout.specs.declared.parts.ChangeParts.{ChangeParts}
+use Rattle.tp_history.specs.Fit.{count_by}
+use Rattle.tp_history.specs.Heads.{heads}
+use Rattle.tp_recovery.specs.Recovery.{Recovers}
+use Rattle.tp_edit.specs.Text.{IsTextOf}
 use Rattle.tp_commands.specs.declared.status.Lock.{Lock}
 use Rattle.tp_commands.specs.declared.status.Lock.TheVariants.{Unknown, Free, HeldBy}
-use Rattle.tp_commands.specs.Reading.{hash_line, line}
+use Rattle.tp_commands.specs.Reading.{hash_line}
+use Rattle.tp_list.specs.Bytes.{line}
 
 -- one where the change is its actor's first: none of the changes before it is the actor's
 abbrev pub first_count : List ChangeParts → ChangeParts → ℕ
@@ -31,7 +32,7 @@ author_count C = author_count_after [] C
 abbrev pub head_line : Hash → List ℕ
 head_line h = codes "head " ++ hash_line h
 
--- the line of how many bytes a recovery keeps, where it cuts off any of so many
+-- the line of how many bytes a recovery keeps, where these are fewer than the journal has
 abbrev pub kept_line : ℕ → ℕ → List ℕ
 kept_line keep size = if nat_lt keep size then line (codes "kept " ++ decimal keep) else []
 

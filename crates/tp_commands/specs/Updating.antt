@@ -3,29 +3,29 @@ use Rattle.std.specs.Prelude.{◌≡◌, ◌⊎◌, ◌+◌, ◌<◌, ◌≤◌,
 use Rattle.tp_opid.specs.declared.actor.Actor.{Actor}
 use Rattle.tp_opid.specs.declared.doc_id.DocId.{DocId}
 use Rattle.tp_opid.specs.declared.hash.Hash.{Hash}
-use Rattle.tp_change.specs.declared.parts.ChangeParts.{ChangeParts}
+use Rattle.tp_layout.specs.declared.parts.ChangeParts.{ChangeParts}
 use Rattle.tp_change.specs.ChangeHash.{hash_of}
-use Rattle.tp_change.specs.declared.limits.TheConstants.{MAX_OPS}
+use Rattle.tp_layout.specs.declared.limits.TheConstants.{MAX_OPS}
 use Rattle.tp_diff.specs.Differences.{LeadAcross}
 use Rattle.tp_edit.specs.declared.splice.Splice.{Splice}
-use Rattle.tp_edit.specs.Splices.{all_spliced, count_of, total_count}
-use Rattle.tp_document.specs.Editing.{Edited, asking}
-use Rattle.tp_journal.specs.Layout.{journal}
-use Rattle.tp_journal.specs.Recovery.{Recovers}
+use Rattle.tp_edit.specs.Splices.{all_spliced, count_of_splice, total_count}
+use Rattle.tp_document.specs.Editing.{IsAcceptedEdit, asking}
+use Rattle.tp_recovery.specs.Layout.{journal}
+use Rattle.tp_recovery.specs.Recovery.{Recovers}
 use Rattle.tp_peer.specs.Actors.{has_actor}
 use Rattle.tp_peer.specs.Appending.{JournalState}
 use Rattle.tp_peer.specs.Opening.{Reopens}
-use Rattle.tp_peer.specs.PeerData.{PeerData}
+use Rattle.tp_peer.specs.PeerState.{PeerState}
 use Rattle.tp_peer.specs.PeerStep.{Edit}
-use Rattle.tp_text.specs.Text.{IsTextOf}
+use Rattle.tp_edit.specs.Text.{IsTextOf}
 use Rattle.tp_commands.specs.declared.error.CommandError.{CommandError}
 use Rattle.tp_commands.specs.declared.error.CommandError.TheVariants.{NotEmpty, OutOfMemory}
-use Rattle.tp_commands.specs.Refusing.{IsUnopened, RefusesCall}
+use Rattle.tp_commands.specs.Refusing.{RefusesJournalOpening, RefusesCall}
 
 -- The first of the later splices would make the operations of these more than a change may have.
 abbrev pub IsFullBefore : List Splice → List Splice → Type 0
 IsFullBefore next [] = Unit {0}
-IsFullBefore next (s ∷ later) = MAX_OPS < total_count next + count_of s
+IsFullBefore next (s ∷ later) = MAX_OPS < total_count next + count_of_splice s
 
 -- The changes are the edits of the splices in turn, but for the rest of these, at the time and with the message: each is an edit
 -- of the actor's on the changes before it, by as many of the splices that come next as one change may have the operations of.
@@ -33,15 +33,15 @@ abbrev pub AreEditsOf : Actor → ℕ → List ℕ → List ChangeParts → List
 AreEditsOf actor time message C ss rest [] = ss ≡ rest
 AreEditsOf actor time message C ss rest (c ∷ cs) =
     (next : List Splice) × (later : List Splice) × (ss ≡ next ++ later) × IsFullBefore next later
-    × Edited C (asking actor next time message) c × AreEditsOf actor time message (C ++ c ∷ []) later rest cs
+    × IsAcceptedEdit C (asking actor next time message) c × AreEditsOf actor time message (C ++ c ∷ []) later rest cs
 
 -- the hashes of changes
 abbrev pub hashes_of : List ChangeParts → List Hash
 hashes_of C = map hash_of C
 
--- The journal's text was made this one by changes of an actor that none of those before has, which were put behind these. They
--- are the edits of the differences between the text that the journal had and this one: none where both are equal, and one alone
--- where the differences together are of no more operations than a change may have.
+-- The journal's text was made this one by changes of an actor that none of those before has, which were put after
+-- these. They are the edits of the differences between the text that the journal had and this one: none where both are
+-- equal, and one alone where the differences together are of no more operations than a change may have.
 pub record UpdatesJournal (before : List ℕ) (actor : Actor) (text : List ℕ) (time : ℕ) (message : List ℕ) (hashes : List Hash) (after : List ℕ) : Type 0 where
   pub id : DocId
   pub changes : List ChangeParts
@@ -62,7 +62,7 @@ pub record UpdatesJournal (before : List ℕ) (actor : Actor) (text : List ℕ) 
 
 -- The peer made the edits of the splices but for the rest, at the time and with the message, whose changes have these hashes,
 -- and runs on.
-pub record MakesEdits (p : PeerData) (ss rest : List Splice) (time : ℕ) (message : List ℕ) (hashes : List Hash) (after : PeerData) : Type 0 where
+pub record MakesEdits (p : PeerState) (ss rest : List Splice) (time : ℕ) (message : List ℕ) (hashes : List Hash) (after : PeerState) : Type 0 where
   pub made : List ChangeParts
   pub edits : AreEditsOf p.actor time message p.applied ss rest made
   pub hashes_are : hashes ≡ hashes_of made
@@ -72,13 +72,13 @@ pub record MakesEdits (p : PeerData) (ss rest : List Splice) (time : ℕ) (messa
   pub same_actor : after.actor ≡ p.actor
 
 -- After whatever edits of splices before, the edit of the ones that come next was made too.
-abbrev pub MakesNext : List Splice → ℕ → List ℕ → List Hash → PeerData → List Hash → PeerData → Type 0
+abbrev pub MakesNext : List Splice → ℕ → List ℕ → List Hash → PeerState → List Hash → PeerState → Type 0
 MakesNext next time message hashes before hashes' after =
-    (p : PeerData) (ss later : List Splice) → MakesEdits p ss (next ++ later) time message hashes before → IsFullBefore next later
+    (p : PeerState) (ss later : List Splice) → MakesEdits p ss (next ++ later) time message hashes before → IsFullBefore next later
     → MakesEdits p ss later time message hashes' after
 
 -- The peer's text was made this one, by the edits of the differences between the two.
-pub record MakesText (p : PeerData) (text : List ℕ) (time : ℕ) (message : List ℕ) (hashes : List Hash) (after : PeerData) : Type 0 where
+pub record MakesText (p : PeerState) (text : List ℕ) (time : ℕ) (message : List ℕ) (hashes : List Hash) (after : PeerState) : Type 0 where
   pub old : List ℕ
   pub was_text : IsTextOf p.applied old
   pub differences : List Splice
@@ -95,8 +95,8 @@ abbrev pub HasNoCharacters : List ℕ → Type 0
 HasNoCharacters bytes = (id : DocId) × (changes : List ChangeParts) × (keep : ℕ) × Recovers bytes id changes keep × IsTextOf changes []
 
 -- The peer made the edits of splices but for the rest, and was refused the next.
-pub record StopsEdits (p : PeerData) (time : ℕ) (message : List ℕ) (e : CommandError) : Type 0 where
-  pub now : PeerData
+pub record StopsEdits (p : PeerState) (time : ℕ) (message : List ℕ) (e : CommandError) : Type 0 where
+  pub now : PeerState
   pub made : List ChangeParts
   pub splices : List Splice
   pub rest : List Splice
@@ -106,16 +106,16 @@ pub record StopsEdits (p : PeerData) (time : ℕ) (message : List ℕ) (e : Comm
   pub refuses : RefusesCall now (Edit next time message) e
 
 -- why a peer's text wasn't made another one: memory was refused, or an edit
-abbrev pub IsNotRewritten : PeerData → ℕ → List ℕ → CommandError → Type 0
+abbrev pub IsNotRewritten : PeerState → ℕ → List ℕ → CommandError → Type 0
 IsNotRewritten p time message e = (e ≡ OutOfMemory) ⊎ StopsEdits p time message e
 
 -- so it is after whatever edits of splices before
-abbrev pub StopsNext : ℕ → List ℕ → List Hash → PeerData → CommandError → Type 0
-StopsNext time message hashes before e = (p : PeerData) (ss rest : List Splice) → MakesEdits p ss rest time message hashes before → IsNotRewritten p time message e
+abbrev pub StopsNext : ℕ → List ℕ → List Hash → PeerState → CommandError → Type 0
+StopsNext time message hashes before e = (p : PeerState) (ss rest : List Splice) → MakesEdits p ss rest time message hashes before → IsNotRewritten p time message e
 
 -- why the text of a journal wasn't made another one: it wasn't opened, or so
 abbrev pub IsNotUpdated : JournalState → Actor → ℕ → List ℕ → CommandError → Type 0
-IsNotUpdated k actor time message e = IsUnopened k actor e ⊎ ((p : PeerData) × Reopens k actor p × IsNotRewritten p time message e)
+IsNotUpdated k actor time message e = RefusesJournalOpening k actor e ⊎ ((p : PeerState) × Reopens k actor p × IsNotRewritten p time message e)
 
 -- why a text wasn't brought into a journal: its text isn't empty, memory was refused, or as an update
 abbrev pub IsNotImported : JournalState → Actor → ℕ → List ℕ → CommandError → Type 0

@@ -3,15 +3,15 @@
 ghost use Rattle.std.specs.Prelude.{◌≡◌, ◌⊎◌, [], length, IfOk, IfErr, OnOk};
 ghost use Rattle.std.specs.Str.{chars};
 ghost use Rattle.tp_journal.specs.Journal.{no_device};
-ghost use Rattle.tp_journal.specs.Layout.{journal as journal_bytes};
-ghost use Rattle.tp_journal.specs.Recovery.{Recovers};
-ghost use Rattle.tp_journal.specs.Refusals.{IsRefusal};
+ghost use Rattle.tp_recovery.specs.Layout.{journal as journal_bytes};
+ghost use Rattle.tp_recovery.specs.Recovery.{Recovers};
+ghost use Rattle.tp_recovery.specs.Refusals.{IsJournalFault};
 ghost use Rattle.tp_peer.specs.Opening.{IsUnused, Reopens};
 ghost use Rattle.tp_peer.specs.Appending.{journal_state};
 ghost use Rattle.tp_peer.specs.PeerStep.{PeerStep, Merge, Merged};
 ghost use Rattle.tp_peer.specs.Taking.{Report};
 ghost use Rattle.tp_commands.specs.Editing.{EditsJournal, TakesJournal};
-ghost use Rattle.tp_commands.specs.Refusing.{IsUnbegun, IsUnedited, IsUnmerged, IsUnopened, RefusesCall};
+ghost use Rattle.tp_commands.specs.Refusing.{RefusesBeginning, RefusesEditing, RefusesMerging, RefusesJournalOpening, RefusesCall};
 ghost use Rattle.tp_store.specs.declared.error.StoreError.TheVariants.{OutOfMemory as Lack};
 
 use crate::error::CommandError;
@@ -32,7 +32,7 @@ pub fn begin<J: Journal>(
     ensures unused { OnOk result (IsUnused (J.content journal)) }
     ensures begun { IfOk result (λ j. J.content j ≡ journal_bytes id []) }
     ensures err { IfErr result
-        (λ e. IsUnbegun (journal_state (J.content journal) (J.device journal)) id e) }
+        (λ e. RefusesBeginning (journal_state (J.content journal) (J.device journal)) id e) }
 {
     match Peer::create(alloc, journal, id, actor) {
         Ok(peer) => Ok(peer.stop()),
@@ -53,11 +53,11 @@ pub fn edit<J: Journal>(
     requires recovers { IfOk opened.1 (λ r.
         Recovers (J.content opened.0) r.document.id r.document.applied r.keep
         × (r.document.waiting ≡ [])) }
-    requires refused { IfErr opened.1 (λ e. (e ≡ Lack) ⊎ IsRefusal (J.content opened.0) e) }
+    requires refused { IfErr opened.1 (λ e. (e ≡ Lack) ⊎ IsJournalFault (J.content opened.0) e) }
     ensures edits { IfOk result (λ r. EditsJournal (J.content opened.0) actor splice.entry time
         (chars message.now) r.1 (J.content r.0)) }
     ensures err { IfErr result
-        (λ e. IsUnedited (journal_state (J.content opened.0) (J.device opened.0)) actor splice.entry
+        (λ e. RefusesEditing (journal_state (J.content opened.0) (J.device opened.0)) actor splice.entry
         time (chars message.now) e) }
 {
     match reopen(alloc, opened, actor) {
@@ -82,11 +82,11 @@ pub fn reopen<J: Journal>(
     requires recovers { IfOk opened.1 (λ r.
         Recovers (J.content opened.0) r.document.id r.document.applied r.keep
         × (r.document.waiting ≡ [])) }
-    requires refused { IfErr opened.1 (λ e. (e ≡ Lack) ⊎ IsRefusal (J.content opened.0) e) }
+    requires refused { IfErr opened.1 (λ e. (e ≡ Lack) ⊎ IsJournalFault (J.content opened.0) e) }
     ensures ok { IfOk result
         (λ p. Reopens (journal_state (J.content opened.0) (J.device opened.0)) actor p) }
     ensures err { IfErr result
-        (λ e. IsUnopened (journal_state (J.content opened.0) (J.device opened.0)) actor e) }
+        (λ e. RefusesJournalOpening (journal_state (J.content opened.0) (J.device opened.0)) actor e) }
 {
     let (journal, recovered) = opened;
     match Peer::open_recovered(alloc, journal, recovered, actor) {
@@ -102,9 +102,9 @@ fn reopen_read(
     actor: Actor,
 ) -> Result<Peer<ReadJournal>, CommandError>
     ensures ok { IfOk result (λ p. Reopens (journal_state journal no_device) actor p) }
-    ensures err { IfErr result (λ e. IsUnopened (journal_state journal no_device) actor e) }
+    ensures err { IfErr result (λ e. RefusesJournalOpening (journal_state journal no_device) actor e) }
 {
-    reopen(alloc, journal.finish_with_journal(), actor)
+    reopen(alloc, ReadJournal::finish(journal), actor)
 }
 
 // Merges the other peer's changes, and ends it. Answers how many entered.
@@ -134,7 +134,7 @@ pub fn merge<J: Journal>(
     actor: Actor,
 ) -> Result<(J, usize), CommandError>
     ensures takes { IfOk result (λ r. TakesJournal peer other actor r.1 (J.content r.0)) }
-    ensures err { IfErr result (λ e. IsUnmerged peer (journal_state other no_device) actor e) }
+    ensures err { IfErr result (λ e. RefusesMerging peer (journal_state other no_device) actor e) }
 {
     match reopen_read(alloc, other, actor) {
         Ok(other) => {

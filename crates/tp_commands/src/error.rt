@@ -2,7 +2,7 @@
 
 ghost use Rattle.std.specs.Prelude.{◌≡◌};
 ghost use Rattle.tp_commands.specs.declared.error.CommandError.TheVariants.{OutOfMemory};
-ghost use Rattle.tp_commands.specs.CommandError.{code_of, IsOfSystem, refusal_of_bytes, refusal_of_document, refusal_of_journal, refusal_of_opening, refusal_of_peer};
+ghost use Rattle.tp_commands.specs.CommandError.{code_of, IsOfSystem, command_refusal_of_bytes, command_refusal_of_document, command_refusal_of_journal, refusal_of_opening, refusal_of_peer};
 
 use std::alloc::{AllocError, AllocFailed};
 use std::io;
@@ -94,7 +94,7 @@ impl From<PeerError> for CommandError {
 }
 
 impl From<DocError> for CommandError {
-    ghost from_gives = { λ error e. e ≡ refusal_of_document error };
+    ghost from_gives = { λ error e. e ≡ command_refusal_of_document error };
 
     fn from(error: DocError) -> CommandError {
         match error {
@@ -117,7 +117,7 @@ impl From<OpenError> for CommandError {
 }
 
 impl From<JournalError> for CommandError {
-    ghost from_gives = { λ error e. e ≡ refusal_of_journal error };
+    ghost from_gives = { λ error e. e ≡ command_refusal_of_journal error };
 
     fn from(error: JournalError) -> CommandError {
         match error {
@@ -128,7 +128,7 @@ impl From<JournalError> for CommandError {
 }
 
 impl From<StoreError> for CommandError {
-    ghost from_gives = { λ error e. e ≡ refusal_of_bytes error };
+    ghost from_gives = { λ error e. e ≡ command_refusal_of_bytes error };
 
     fn from(error: StoreError) -> CommandError {
         match error {

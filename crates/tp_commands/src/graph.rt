@@ -5,11 +5,11 @@ ghost use Rattle.std.specs.List.{flat_map};
 ghost use Rattle.std.specs.String.{string_bytes};
 ghost use Rattle.hex.specs.Hex.{encode_lower};
 ghost use Rattle.tp_change.specs.ChangeHash.{hash_of};
-ghost use Rattle.tp_commands.specs.Refusing.{IsUnread};
+ghost use Rattle.tp_commands.specs.Refusing.{RefusesJournal};
 ghost use Rattle.tp_commands.specs.Graph.{IsChangeGraph, border_of, change_part as part_of_change, edge_line as line_of_edge, graph_of, is_head as is_head_of, label_char, label_of, node_line as line_of_node, node_name as name_of_node, node_text as text_of_node};
 
 use crate::error::CommandError;
-use crate::log::{deleted, inserted, put_message};
+use crate::log::{deletes_in, inserts_in, put_message};
 use crate::reading::{Text, digits, document_in};
 use std::alloc::{AllocError, Global};
 use tp_change::Change;
@@ -54,14 +54,14 @@ fn node_text(alloc: Global, change: &Change) -> Result<String, CommandError>
 {
     let hash = first_digits(alloc, &change.hash())?;
     let time = change.time();
-    let inserted = inserted(change);
-    let deleted = deleted(change);
+    let inserted = inserts_in(change);
+    let deleted = deletes_in(change);
     let mut text = format!(in alloc; "{hash} {time} +{inserted} -{deleted}")?;
     put_message(&mut text, change.message())?;
     Ok(text)
 }
 
-// Puts a character behind a label.
+// Puts a character after a label.
 fn put_label_char(label: &mut String, ch: char) -> Result<(), AllocError>
     ensures { OnOk result (string_bytes label.new ≡ string_bytes label.old ++ label_char ch) }
 {
@@ -166,7 +166,7 @@ fn graph(alloc: Global, document: &Text) -> Result<String, CommandError>
 /// One pass over the changes, their characters and their dependencies; whether a change is a head is searched by halves.
 pub fn graph_lines(alloc: Global, journal: Recovering<PeerSequence>) -> Result<String, CommandError>
     ensures lines { IfOk result (λ lines. IsChangeGraph journal (string_bytes lines)) }
-    ensures err { IfErr result (λ e. IsUnread journal e) }
+    ensures err { IfErr result (λ e. RefusesJournal journal e) }
 {
     let document = document_in(journal)?;
     let lines = graph(alloc, &document);

@@ -1,7 +1,6 @@
 //! What the commands of `textpeer` do to bytes and journals.
 #![tactic(auto)]
 
-mod advice;
 mod diff;
 mod editing;
 mod error;
@@ -20,7 +19,8 @@ pub use graph::graph_lines;
 pub use log::log_lines;
 pub use pretty::pretty_lines;
 pub use reading::{
-    Recovery, cursor_line, hash_line, head_lines, id_line, made_lines, raw_text, saved, text_line,
+    Recovery, cursor_line, hash_line, head_lines, id_line, made_lines, raw_text, saved_file,
+    text_line,
 };
-pub use status::{FileId, Lock, lock_in, status_lines};
+pub use status::{Lock, status_lines};
 pub use updating::{import, text_in_file, update};

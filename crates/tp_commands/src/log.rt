@@ -4,9 +4,9 @@ ghost use Rattle.std.specs.Prelude.{◌≡◌, ◌≤◌, ◌++◌, IfOk, IfErr,
 ghost use Rattle.std.specs.List.{flat_map};
 ghost use Rattle.std.specs.Str.{chars};
 ghost use Rattle.std.specs.String.{string_bytes};
-ghost use Rattle.tp_change.specs.Operations.{count_in};
-ghost use Rattle.tp_commands.specs.Refusing.{IsUnread};
-ghost use Rattle.tp_commands.specs.Log.{AreChangeLines, change_line as line_of_change, delete_count, deleted_count, escaped, fields_part, inserted_count, message_part, newest as newest_of};
+ghost use Rattle.tp_layout.specs.Counts.{count_in};
+ghost use Rattle.tp_commands.specs.Refusing.{RefusesJournal};
+ghost use Rattle.tp_commands.specs.Log.{AreChangeLines, change_line as line_of_change, delete_count, deleted_count, escaped_char, fields_part, inserted_count, message_part, newest as newest_of};
 
 use crate::error::CommandError;
 use crate::reading::{digits, document_in};
@@ -28,7 +28,7 @@ fn deletes(entry: &Record) -> usize
 }
 
 // How many of a change's operations delete a character.
-pub(crate) fn deleted(change: &Change) -> usize
+pub(crate) fn deletes_in(change: &Change) -> usize
     ensures { result ≡ deleted_count change.now }
 {
     let _hash = change.hash();
@@ -40,15 +40,15 @@ pub(crate) fn deleted(change: &Change) -> usize
 }
 
 // How many of them insert one.
-pub(crate) fn inserted(change: &Change) -> usize
+pub(crate) fn inserts_in(change: &Change) -> usize
     ensures { result ≡ inserted_count change.now }
 {
-    change.op_count() - deleted(change)
+    change.op_count() - deletes_in(change)
 }
 
-// Puts a character behind the line: a control character and a backslash as Rust escapes them.
+// Puts a character after the line: a control character and a backslash as Rust escapes them.
 fn put_char(line: &mut String, ch: char) -> Result<(), AllocError>
-    ensures { OnOk result (string_bytes line.new ≡ string_bytes line.old ++ escaped ch) }
+    ensures { OnOk result (string_bytes line.new ≡ string_bytes line.old ++ escaped_char ch) }
 {
     if ch.is_control() || ch == '\\' {
         line.extend(ch.escape_default())
@@ -57,10 +57,10 @@ fn put_char(line: &mut String, ch: char) -> Result<(), AllocError>
     }
 }
 
-// Puts the characters of a text behind the line.
+// Puts the characters of a text after the line.
 fn put_escaped(line: &mut String, text: &str) -> Result<(), AllocError>
     ensures { OnOk result
-        (string_bytes line.new ≡ string_bytes line.old ++ flat_map escaped (chars text.now)) }
+        (string_bytes line.new ≡ string_bytes line.old ++ flat_map escaped_char (chars text.now)) }
 {
     for ch in text.chars() {
         put_char(line, ch)?;
@@ -68,7 +68,7 @@ fn put_escaped(line: &mut String, text: &str) -> Result<(), AllocError>
     Ok(())
 }
 
-// Puts the message behind the line, if there is one.
+// Puts the message after the line, if there is one.
 pub(crate) fn put_message(line: &mut String, message: &str) -> Result<(), AllocError>
     ensures { OnOk result
         (string_bytes line.new ≡ string_bytes line.old ++ message_part (chars message.now)) }
@@ -89,8 +89,8 @@ fn fields(alloc: Global, change: &Change) -> Result<String, CommandError>
     let actor = digits(change.actor().to_text(alloc))?;
     let seq = change.seq();
     let time = change.time();
-    let inserted = inserted(change);
-    let deleted = deleted(change);
+    let inserted = inserts_in(change);
+    let deleted = deletes_in(change);
     Ok(format!(in alloc; "{hash} {actor} {seq} {time} +{inserted} -{deleted}")?)
 }
 
@@ -117,7 +117,7 @@ fn change_lines(alloc: Global, changes: &[Change]) -> Result<String, CommandErro
     Ok(lines)
 }
 
-/// The newest of the changes: so many, or all where they are fewer.
+/// The newest of the changes: `most`, or all where they are fewer.
 pub(crate) fn newest(changes: &[Change], most: u64) -> &[Change]
     ensures { result.now ≡ newest_of most changes.now }
 {
@@ -134,7 +134,7 @@ pub fn log_lines(
     most: u64,
 ) -> Result<String, CommandError>
     ensures lines { IfOk result (λ lines. AreChangeLines journal most (string_bytes lines)) }
-    ensures err { IfErr result (λ e. IsUnread journal e) }
+    ensures err { IfErr result (λ e. RefusesJournal journal e) }
 {
     let document = document_in(journal)?;
     let lines = change_lines(alloc, newest(document.changes(), most));

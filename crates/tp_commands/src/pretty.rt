@@ -3,12 +3,12 @@
 ghost use Rattle.std.specs.Prelude.{◌≡◌, ◌≤◌, ◌++◌, IfOk, IfErr, codes, pos, ◌*ℤ◌, reverse};
 ghost use Rattle.std.specs.String.{string_bytes};
 ghost use Rattle.jiff_core.specs.DateTime.{civil_nanos};
-ghost use Rattle.tp_commands.specs.Refusing.{IsUnread};
+ghost use Rattle.tp_commands.specs.Refusing.{RefusesJournal};
 ghost use Rattle.tp_commands.specs.Pretty.{ArePrettyLines, IsDateText, IsPrettyLine, IsPrettyLog, clock_text as text_of_clock, dated_line as line_of_date, day_text as text_of_day, pretty_fields as fields_of, two_digits as digits_of_two};
 
 use crate::error::CommandError;
 use crate::graph::first_digits;
-use crate::log::{deleted, inserted, newest, put_message};
+use crate::log::{deletes_in, inserts_in, newest, put_message};
 use crate::reading::document_in;
 use jiff_core::civil::{Date, DateTime, Time};
 use std::alloc::{AllocError, Global};
@@ -54,7 +54,7 @@ fn moment_text(alloc: Global, at: &DateTime) -> Result<String, AllocError>
     format!(in alloc; "{day} {clock}")
 }
 
-// The date and the time of day that are so many seconds after 1970 began.
+// The date and the time of day that are `seconds` after 1970 began.
 fn moment(seconds: u64) -> DateTime
     requires { seconds ≤ 253402300799 }
     ensures { civil_nanos result ≡ pos seconds *ℤ pos 1_000_000_000 }
@@ -62,7 +62,7 @@ fn moment(seconds: u64) -> DateTime
     DateTime::from_nanosecond_in_range(seconds as i128 * 1_000_000_000)
 }
 
-// The date and the time of day of so many seconds after 1970 began.
+// The date and the time of day of `seconds` after 1970 began.
 fn date_text(alloc: Global, seconds: u64) -> Result<String, AllocError>
     ensures { IfOk result (λ t. IsDateText seconds (string_bytes t)) }
 {
@@ -82,8 +82,8 @@ fn pretty_fields(alloc: Global, change: &Change, date: &str) -> Result<String, A
 {
     let hash = first_digits(alloc, &change.hash())?;
     let actor = hex::encode(alloc, &change.actor().0[..4])?;
-    let inserted = inserted(change);
-    let deleted = deleted(change);
+    let inserted = inserts_in(change);
+    let deleted = deletes_in(change);
     format!(in alloc; "{hash} {date} {actor} +{inserted} -{deleted}")
 }
 
@@ -128,7 +128,7 @@ pub fn pretty_lines(
     most: u64,
 ) -> Result<String, CommandError>
     ensures lines { IfOk result (λ l. IsPrettyLog journal most (string_bytes l)) }
-    ensures err { IfErr result (λ e. IsUnread journal e) }
+    ensures err { IfErr result (λ e. RefusesJournal journal e) }
 {
     let document = document_in(journal)?;
     let lines = pretty_changes(alloc, newest(document.changes(), most));

@@ -6,14 +6,15 @@ ghost use Rattle.std.specs.Str.{chars};
 ghost use Rattle.std.specs.String.{string_bytes};
 ghost use Rattle.hex.specs.Hex.{encode_lower};
 ghost use Rattle.tp_opid.specs.declared.op_id.OpId.{OpId};
-ghost use Rattle.tp_document.specs.Showing.{HasElementAt, HasPosition};
-ghost use Rattle.tp_graph.specs.Past.{past};
-ghost use Rattle.tp_text.specs.Text.{IsTextOf};
-ghost use Rattle.tp_journal.specs.Recovery.{Recovers};
+ghost use Rattle.tp_snapshot.specs.Showing.{HasElementAt, HasPosition};
+ghost use Rattle.tp_history.specs.Past.{past};
+ghost use Rattle.tp_edit.specs.Text.{IsTextOf};
+ghost use Rattle.tp_recovery.specs.Recovery.{Recovers};
 ghost use Rattle.tp_document.specs.declared.error.DocError.TheVariants as doc;
-ghost use Rattle.tp_graph.specs.Named.{has_all};
-ghost use Rattle.tp_commands.specs.Refusing.{HasNoPosition, HasNoText, IsUnread};
-ghost use Rattle.tp_commands.specs.Reading.{AreHeadLines, IsCursorLine, IsTextAt, IsTextLine, Saves, changes_at, lines_of_made, hash_line as line_of_hash, line as line_of};
+ghost use Rattle.tp_history.specs.Named.{has_all};
+ghost use Rattle.tp_commands.specs.Refusing.{HasNoPosition, HasNoText, RefusesJournal};
+ghost use Rattle.tp_commands.specs.Reading.{AreHeadLines, IsCursorLine, IsTextAt, IsTextLine, Saves, changes_at_heads, lines_of_made, hash_line as line_of_hash};
+ghost use Rattle.tp_list.specs.Bytes.{line as line_of};
 
 use crate::error::CommandError;
 use std::alloc::{AllocError, Global};
@@ -32,7 +33,7 @@ pub type Recovery = Result<Recovered<PeerSequence>, StoreError>;
 /// The document of a journal, as `recover` gives it of its bytes.
 pub(crate) fn document_in(journal: Recovering<PeerSequence>) -> Result<Text, CommandError>
     ensures ok { IfOk result (λ d. (keep : ℕ) × Recovers journal d.id d.applied keep) }
-    ensures err { IfErr result (λ e. IsUnread journal e) }
+    ensures err { IfErr result (λ e. RefusesJournal journal e) }
 {
     match journal.finish() {
         Ok(recovered) => Ok(recovered.document),
@@ -50,7 +51,7 @@ fn line(mut text: String) -> Result<String, AllocError>
 
 // The text of a document: as it is now, or at the heads where any are given.
 pub(crate) fn text_in(document: &Text, heads: &[Hash]) -> Result<String, DocError>
-    ensures text { IfOk result (λ text. IsTextOf (changes_at document.now.applied heads.now)
+    ensures text { IfOk result (λ text. IsTextOf (changes_at_heads document.now.applied heads.now)
         (chars (string_bytes text))) }
     ensures err { IfErr result (λ e. (e ≡ doc.OutOfMemory)
         ⊎ ((e ≡ doc.UnknownHead) × (has_all document.now.applied heads.now ≡ false))) }
@@ -71,10 +72,7 @@ pub fn text_line(
     ensures text { IfOk result (λ l. IsTextLine journal heads.now (string_bytes l)) }
     ensures err { IfErr result (λ e. HasNoText journal heads.now e) }
 {
-    let document = document_in(journal)?;
-    let text = text_in(&document, heads);
-    drop(document);
-    Ok(line(text?)?)
+    Ok(line(raw_text(journal, heads)?)?)
 }
 
 /// The text of a journal as it is, or at the heads where any are given.
@@ -141,7 +139,7 @@ pub fn made_lines(alloc: Global, hashes: &[Hash]) -> Result<String, CommandError
 /// The heads of a journal, rising, a line each.
 pub fn head_lines(alloc: Global, journal: Recovering<PeerSequence>) -> Result<String, CommandError>
     ensures lines { IfOk result (λ lines. AreHeadLines journal (string_bytes lines)) }
-    ensures err { IfErr result (λ e. IsUnread journal e) }
+    ensures err { IfErr result (λ e. RefusesJournal journal e) }
 {
     let document = document_in(journal)?;
     let lines = hash_lines(alloc, document.heads());
@@ -149,7 +147,7 @@ pub fn head_lines(alloc: Global, journal: Recovering<PeerSequence>) -> Result<St
     lines
 }
 
-// Where the character at a position of the text at the heads stands now.
+// Where the character at a position of the text at the heads is now.
 fn position_in(document: &Text, at: usize, heads: &[Hash]) -> Result<usize, DocError>
     ensures ok { IfOk result (λ position. (element : OpId)
         × HasElementAt (past document.now.applied heads.now) at (Some element)
@@ -165,7 +163,7 @@ fn position_in(document: &Text, at: usize, heads: &[Hash]) -> Result<usize, DocE
     document.cursor_position(&cursor)
 }
 
-/// Where the character at a position of the text at the heads stands now, and a newline.
+/// Where the character at a position of the text at the heads is now, and a newline.
 pub fn cursor_line(
     alloc: Global,
     journal: Recovering<PeerSequence>,
@@ -183,9 +181,9 @@ pub fn cursor_line(
 }
 
 /// The saved file of a journal's document.
-pub fn saved(alloc: Global, journal: Recovering<PeerSequence>) -> Result<Vec<u8>, CommandError>
+pub fn saved_file(alloc: Global, journal: Recovering<PeerSequence>) -> Result<Vec<u8>, CommandError>
     ensures saves { IfOk result (λ bytes. Saves journal bytes.items) }
-    ensures err { IfErr result (λ e. IsUnread journal e) }
+    ensures err { IfErr result (λ e. RefusesJournal journal e) }
 {
     let document = document_in(journal)?;
     let bytes = save(alloc, &document);

@@ -5,14 +5,14 @@ ghost use Rattle.std.specs.List.{All};
 ghost use Rattle.std.specs.Str.{chars};
 ghost use Rattle.std.specs.Str.Lossy.{utf8_valid_len};
 ghost use Rattle.tp_document.specs.Editing.{DoesSplices};
-ghost use Rattle.tp_journal.specs.Recovery.{Recovers};
-ghost use Rattle.tp_journal.specs.Refusals.{IsRefusal};
+ghost use Rattle.tp_recovery.specs.Recovery.{Recovers};
+ghost use Rattle.tp_recovery.specs.Refusals.{IsJournalFault};
 ghost use Rattle.tp_peer.specs.Appending.{journal_state};
 ghost use Rattle.tp_store.specs.declared.error.StoreError.TheVariants.{OutOfMemory as Lack};
-ghost use Rattle.tp_text.specs.Text.{IsTextOf};
+ghost use Rattle.tp_edit.specs.Text.{IsTextOf};
 ghost use Rattle.tp_commands.specs.declared.error.CommandError.TheVariants.{NotText};
 ghost use Rattle.tp_commands.specs.Updating.{HasNoCharacters, IsFullBefore, IsNotImported, IsNotRewritten, IsNotUpdated, MakesEdits, MakesNext, MakesText, StopsNext, UpdatesJournal};
-ghost use Rattle.tp_edit.specs.Splices.{count_of, total_count};
+ghost use Rattle.tp_edit.specs.Splices.{count_of_splice, total_count};
 
 use crate::editing::reopen;
 use crate::error::CommandError;
@@ -91,7 +91,7 @@ fn edit_all<J: Journal>(
     message: &str,
 ) -> Result<Vec<Hash>, CommandError>
     requires runs { peer.old.stopped ≡ false }
-    requires some { All (λ s. 0 < count_of s) splices.now }
+    requires some { All (λ s. 0 < count_of_splice s) splices.now }
     ensures ok { IfOk result (λ hashes.
         MakesEdits peer.old splices.now [] time (chars message.now) hashes.items peer.new) }
     ensures text { OnOk result (DoesSplices peer.old.applied peer.new.applied splices.now) }
@@ -140,7 +140,7 @@ pub fn update<J: Journal>(
     requires recovers { IfOk opened.1 (λ r.
         Recovers (J.content opened.0) r.document.id r.document.applied r.keep
         × (r.document.waiting ≡ [])) }
-    requires refused { IfErr opened.1 (λ e. (e ≡ Lack) ⊎ IsRefusal (J.content opened.0) e) }
+    requires refused { IfErr opened.1 (λ e. (e ≡ Lack) ⊎ IsJournalFault (J.content opened.0) e) }
     ensures updates { IfOk result (λ r. UpdatesJournal (J.content opened.0) actor (chars text.now)
         time (chars message.now) r.1.items (J.content r.0)) }
     ensures err { IfErr result

@@ -5,25 +5,25 @@ use Rattle.std.proofs.lemmas.Bool.{cases_order}
 use Rattle.sha2.specs.Sha256.{compress, digest_bytes, hash_after, initial_hash_256, sha256, padded_message}
 use Rattle.tp_digest.proofs.Lanewise.{in_each}
 use Rattle.tp_digest.proofs.Paddings.{length-padded}
-use Rattle.tp_digest.specs.Blocks.{block_count, block_of, hash_of}
+use Rattle.tp_digest.specs.Blocks.{block_count, block_of, hash_after_blocks}
 use Rattle.tp_digest.specs.Lanes.{lane_of}
 use Rattle.tp_digest.specs.declared.state.State.{State}
 
 -- after i blocks the lanes of the messages that go on hold their hash values, and the other digests are there
 pub record HasHashed (ms : List (List ℕ)) (counts : List ℕ) (s : State) (digests : List (List ℕ)) (i : ℕ) : Type 0 where
   pub long : length digests ≡ 4
-  pub held : (k : ℕ) → k < 4 → i ≤ get_or counts k 0 → lane_of s k ≡ hash_of (get_or ms k []) i
+  pub held : (k : ℕ) → k < 4 → i ≤ get_or counts k 0 → lane_of s k ≡ hash_after_blocks (get_or ms k []) i
   pub ended : (k : ℕ) → k < 4 → get_or counts k 0 ≤ i → get_or digests k [] ≡ sha256 (get_or ms k [])
 
-pub hash_begun : (m : List ℕ) → initial_hash_256 ≡ hash_of m 0
+pub hash_begun : (m : List ℕ) → initial_hash_256 ≡ hash_after_blocks m 0
 unfolding hash_after
 hash_begun m = refl
 
-hash_next : (m : List ℕ) (i : ℕ) → compress (hash_of m i) (block_of m i) ≡ hash_of m (i + 1)
+hash_next : (m : List ℕ) (i : ℕ) → compress (hash_after_blocks m i) (block_of m i) ≡ hash_after_blocks m (i + 1)
 unfolding hash_after
 hash_next m i = rw add-one refl
 
-hash_done : (m h : List ℕ) → h ≡ hash_of m (block_count m) → digest_bytes h 8 ≡ sha256 m
+hash_done : (m h : List ℕ) → h ≡ hash_after_blocks m (block_count m) → digest_bytes h 8 ≡ sha256 m
 unfolding sha256
 hash_done m h e = ap (λ v. digest_bytes v 8) e
 
@@ -39,7 +39,7 @@ some_blocks m n e = (quotient n (length (padded_message m)) e, positive n _ _ (e
 
 pub begins : (ms : List (List ℕ)) (counts : List ℕ) (s : State) (digests : List (List ℕ)) → length digests ≡ 4
     → ((k : ℕ) → k < 4 → 64 * get_or counts k 0 ≡ length (padded_message (get_or ms k [])))
-    → ((k : ℕ) → k < 4 → lane_of s k ≡ hash_of (get_or ms k []) 0)
+    → ((k : ℕ) → k < 4 → lane_of s k ≡ hash_after_blocks (get_or ms k []) 0)
     → HasHashed ms counts s digests 0
 begins ms counts s digests long counted held = record {
   long = long;
@@ -57,15 +57,15 @@ pub goes_on : (ms : List (List ℕ)) (counts : List ℕ) (s t : State) (ds es bs
     → ((k : ℕ) → k < 4 → get_or counts k 0 ≢ i + 1 → get_or es k [] ≡ get_or ds k [])
     → length es ≡ 4 → HasHashed ms counts t es (i + 1)
 goes_on ms counts s t ds es bs i now counted blocks compressed ends others long =
-    let held : (k : ℕ) → k < 4 → i + 1 ≤ get_or counts k 0 → lane_of t k ≡ hash_of (get_or ms k []) (i + 1) = λ k h le.
+    let held : (k : ℕ) → k < 4 → i + 1 ≤ get_or counts k 0 → lane_of t k ≡ hash_after_blocks (get_or ms k []) (i + 1) = λ k h le.
     let m = get_or ms k [] in
     let n = counted k h in
     compressed k h ∙ ap (λ v. compress v (get_or bs k [])) (now.held k h (omega arith))
-    ∙ ap (λ b. compress (hash_of m i) b) (blocks k h (omega arith)) ∙ hash_next m i in
+    ∙ ap (λ b. compress (hash_after_blocks m i) b) (blocks k h (omega arith)) ∙ hash_next m i in
     let last : (k : ℕ) → k < 4 → get_or counts k 0 ≡ i + 1 → get_or es k [] ≡ sha256 (get_or ms k []) = λ k h e.
     let m = get_or ms k [] in
     let n = (some_blocks m (get_or counts k 0) (counted k h)).0 in
-    ends k h e ∙ hash_done m (lane_of t k) (held k h (omega arith) ∙ ap (λ j. hash_of m j) (sym e ∙ n)) in
+    ends k h e ∙ hash_done m (lane_of t k) (held k h (omega arith) ∙ ap (λ j. hash_after_blocks m j) (sym e ∙ n)) in
     let before : (k : ℕ) → k < 4 → get_or counts k 0 ≤ i → get_or es k [] ≡ sha256 (get_or ms k []) = λ k h le.
     others k h (omega arith) ∙ now.ended k h le in
     record {

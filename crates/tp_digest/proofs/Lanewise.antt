@@ -37,7 +37,7 @@ each f x g p = record {
   at = λ k l. get_or-map f x k 0 0 (omega (arith, p.four)) ∙ ap f (p.at k l);
 }
 
--- the same words, said otherwise
+-- words that are equal to those in the lanes are in them too
 pub said : (x : List ℕ) (g h : ℕ → ℕ) → HasInLanes x g → ((k : ℕ) → k < 4 → g k ≡ h k) → HasInLanes x h
 said x g h p e = record { four = p.four; at = λ k l. p.at k l ∙ e k l }
 

@@ -18,7 +18,7 @@ length-padding n =
     let z = (119 - n % 64) % 64 in
     omega (arith, length-append (zeros z) (to_be_bytes w64 (n * 8 % 2 ^ 64)), length-zeros z)
 
--- zeros, with a byte and then zeros behind the bytes left
+-- zeros, with a byte and then zeros after the bytes left
 begun : (left : List ℕ) (r z : ℕ) → length left ≡ r → r + z < 128
     → take (r + (1 + z)) (set (left ++ drop r (zeros 128)) r 0x80) ≡ left ++ 0x80 ∷ zeros z
 begun left r z long room =
@@ -35,7 +35,7 @@ begun left r z long room =
     ∙ take_at front (zeros rest) (r + (1 + z))
     (omega (arith, length-append left (0x80 ∷ zeros z), length-zeros z))
 
--- and the length behind them
+-- and the length after them
 pub tail_filled : (left new be : List ℕ) (n end k : ℕ) → new ≡ left → length left ≡ n % 64
     → end ≡ length left + (9 + (119 - length left) % 64) → be ≡ to_be_bytes w64 (n * 8 % 2 ^ 64)
     → take end (put_mid (end - 8) k (set (new ++ drop (length left) (zeros 128)) (length left) 0x80) be)
@@ -69,7 +69,7 @@ block_of-whole m i h =
     sym (ap (λ xs. take 64 xs) (drop-append-le (i * 64) m (padding (length m)) (omega arith))
     ∙ take-append-le 64 (drop (i * 64) m) (padding (length m)) (omega (arith, length-drop (i * 64) m)))
 
--- a block behind them
+-- a block after them
 pub block_of-tail : (m tail : List ℕ) (i end : ℕ) → take end tail ≡ tail_of m → length m / 64 ≤ i
     → 64 * (i - length m / 64) + 64 ≤ end → take 64 (drop (64 * (i - length m / 64)) tail) ≡ block_of m i
 block_of-tail m tail i end known from room =

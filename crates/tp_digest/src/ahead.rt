@@ -17,7 +17,7 @@ pub struct Ahead<'a> {
     digests: [[u8; 32]; 4],
     next: usize,
     is_taken: bool,
-    ghost ready: { is_taken ≡ true → (k : ℕ) → k < 4
+    ghost ready: { IsTrue is_taken → (k : ℕ) → k < 4
         → slice_index_or digests k [] ≡ slice_index_or (map (λ piece. sha256 piece.now) pieces) k [] },
 }
 
@@ -46,7 +46,7 @@ impl<'a> Ahead<'a> {
         }
     }
 
-    /// Expects these pieces. For fewer than four write empty ones behind them.
+    /// Expects these pieces. For fewer than four write empty ones after them.
     pub fn of(pieces: [&'a [u8]; 4]) -> Ahead<'a> {
         Ahead {
             pieces,
@@ -66,7 +66,7 @@ impl<'a> Ahead<'a> {
     fn take(&mut self) -> bool
         ensures pieces { self.new.pieces ≡ self.old.pieces }
         ensures next { IsTrue result → self.new.next ≡ self.old.next }
-        ensures taken { IsTrue result → self.new.is_taken ≡ true }
+        ensures taken { IsTrue result → IsTrue self.new.is_taken }
     {
         if self.is_taken {
             return true;

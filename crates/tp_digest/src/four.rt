@@ -52,7 +52,7 @@ fn side_by_side(first: &Padded, second: &Padded, third: &Padded, fourth: &Padded
             third.block(i),
             fourth.block(i),
         ];
-        state = state.compressed(&blocks, &mut words);
+        state = state.after_blocks(&blocks, &mut words);
         write_ended(&mut digests, &state, &counts, i + 1);
     }
     digests

@@ -3,7 +3,7 @@ ghost use Rattle.std.specs.Prelude.{◌≡◌, ◌<◌, ◌*◌, ◌≤◌, ◌+
 ghost use Rattle.sha2.specs.Sha256.{padded_message, padding};
 ghost use Rattle.tp_digest.specs.Blocks.{block_of, tail_of};
 
-/// A message as blocks of 64 bytes: its whole ones where they stand, and one or two that end with its length.
+/// A message as blocks of 64 bytes: its whole ones where they are, and one or two that end with its length.
 #[derive(Drop)]
 pub(crate) struct Padded<'a> {
     message: &'a [u8],
@@ -16,7 +16,7 @@ pub(crate) struct Padded<'a> {
 
 /// How many blocks hold the last bytes, of which there are fewer than a block, and the padding.
 #[inline(always)]
-fn blocks_behind(left: usize) -> usize
+fn blocks_after(left: usize) -> usize
     requires { left < 64 }
     ensures { 64 * result ≡ left + (9 + (119 - left) % 64) }
 {
@@ -39,7 +39,7 @@ fn padded_tail(left: &[u8], end: usize, bytes: usize) -> [u8; 128]
 }
 
 #[inline(always)]
-fn copied(bytes: &[u8]) -> [u8; 64]
+fn array_of(bytes: &[u8]) -> [u8; 64]
     requires { length bytes.now ≡ 64 }
     ensures { result ≡ bytes.now }
 {
@@ -54,11 +54,11 @@ impl<'a> Padded<'a> {
     {
         let whole = message.len() / 64;
         let left = &message[64 * whole..];
-        let behind = blocks_behind(left.len());
+        let beyond = blocks_after(left.len());
         Padded {
             message,
-            tail: padded_tail(left, 64 * behind, message.len()),
-            blocks: whole + behind,
+            tail: padded_tail(left, 64 * beyond, message.len()),
+            blocks: whole + beyond,
         }
     }
 
@@ -78,10 +78,10 @@ impl<'a> Padded<'a> {
     {
         let whole = self.message.len() / 64;
         if index < whole {
-            copied(&self.message[64 * index..64 * index + 64])
+            array_of(&self.message[64 * index..64 * index + 64])
         } else if index < self.blocks {
             let at = 64 * (index - whole);
-            copied(&self.tail[at..at + 64])
+            array_of(&self.tail[at..at + 64])
         } else {
             [0; 64]
         }

@@ -138,7 +138,7 @@ impl State {
 
     /// The state after one more block of each message. The words are room for the schedule.
     #[inline(always)]
-    pub(crate) fn compressed(self, blocks: &[[u8; 64]; 4], words: &mut [u32x4; 64]) -> State
+    pub(crate) fn after_blocks(self, blocks: &[[u8; 64]; 4], words: &mut [u32x4; 64]) -> State
         ensures { (k : ℕ) → k < 4 → lane_of result k ≡ compress (lane_of self k) (slice_index_or blocks.now k []) }
     {
         write_schedule(words, blocks);

@@ -7,7 +7,7 @@ ghost use Rattle.tp_digest.specs.Lanes.{HasInLanes};
 use std::simd::prelude::*;
 
 #[inline(always)]
-fn rotated(x: u32x4, by: u32) -> u32x4
+fn rotate_lanes(x: u32x4, by: u32) -> u32x4
     requires positive { 0 < by }
     requires below { by < 32 }
     ensures { HasInLanes result (λ k. rotate_right w32 (slice_index x k) by) }
@@ -40,26 +40,26 @@ pub(crate) fn majority(x: u32x4, y: u32x4, z: u32x4) -> u32x4
 pub(crate) fn big_sigma0(x: u32x4) -> u32x4
     ensures { HasInLanes result (λ k. big_sigma0 (slice_index x k)) }
 {
-    rotated(x, 2) ^ rotated(x, 13) ^ rotated(x, 22)
+    rotate_lanes(x, 2) ^ rotate_lanes(x, 13) ^ rotate_lanes(x, 22)
 }
 
 #[inline(always)]
 pub(crate) fn big_sigma1(x: u32x4) -> u32x4
     ensures { HasInLanes result (λ k. big_sigma1 (slice_index x k)) }
 {
-    rotated(x, 6) ^ rotated(x, 11) ^ rotated(x, 25)
+    rotate_lanes(x, 6) ^ rotate_lanes(x, 11) ^ rotate_lanes(x, 25)
 }
 
 #[inline(always)]
 pub(crate) fn small_sigma0(x: u32x4) -> u32x4
     ensures { HasInLanes result (λ k. small_sigma0 (slice_index x k)) }
 {
-    rotated(x, 7) ^ rotated(x, 18) ^ (x >> 3)
+    rotate_lanes(x, 7) ^ rotate_lanes(x, 18) ^ (x >> 3)
 }
 
 #[inline(always)]
 pub(crate) fn small_sigma1(x: u32x4) -> u32x4
     ensures { HasInLanes result (λ k. small_sigma1 (slice_index x k)) }
 {
-    rotated(x, 17) ^ rotated(x, 19) ^ (x >> 10)
+    rotate_lanes(x, 17) ^ rotate_lanes(x, 19) ^ (x >> 10)
 }

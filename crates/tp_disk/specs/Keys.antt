@@ -10,8 +10,8 @@ IsKeyed None generator = (key : List ℕ) × (generator ≡ of_seed key)
 IsKeyed (Some key) generator = generator ≡ of_seed key
 
 -- the actor that is drawn from the generator, and the generator afterwards
-unfoldable pub drawn : ChaCha → Actor
-drawn generator = fresh_actor_of generator
+unfoldable pub drawn_actor : ChaCha → Actor
+drawn_actor generator = fresh_actor_of generator
 
 unfoldable pub after_draw : ChaCha → ChaCha
 after_draw generator = after_word (after_word (after_word (after_word generator)))

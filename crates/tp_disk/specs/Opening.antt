@@ -4,14 +4,14 @@ use Rattle.std.specs.Fmt.{decimal}
 use Rattle.rand_chacha.specs.ChaCha.{ChaCha}
 use Rattle.tp_opid.specs.declared.actor.Actor.{Actor}
 use Rattle.tp_opid.specs.declared.doc_id.DocId.{DocId}
-use Rattle.tp_change.specs.declared.parts.ChangeParts.{ChangeParts}
-use Rattle.tp_journal.specs.Recovery.{HasTail, Recovers}
-use Rattle.tp_journal.specs.Whole.{HoldsRecord}
+use Rattle.tp_layout.specs.declared.parts.ChangeParts.{ChangeParts}
+use Rattle.tp_recovery.specs.Recovery.{HasTail, Recovers}
+use Rattle.tp_recovery.specs.Whole.{HoldsRecord}
 use Rattle.tp_peer.specs.Appending.{JournalState}
 use Rattle.tp_peer.specs.Opening.{Reopens}
-use Rattle.tp_peer.specs.PeerData.{PeerData}
+use Rattle.tp_peer.specs.PeerState.{PeerState}
 use Rattle.tp_disk.specs.DiskView.{DiskView, OfLocked, WasLeft}
-use Rattle.tp_disk.specs.Keys.{IsKeyed, drawn}
+use Rattle.tp_disk.specs.Keys.{IsKeyed, drawn_actor}
 
 -- the path of the file that keeps what is cut off a journal from the offset on
 abbrev pub cut_path : List ℕ → ℕ → List ℕ
@@ -42,13 +42,13 @@ abbrev pub MayCutFile : (DiskView → Type 0) → List ℕ → Option ℕ → Ty
 MayCutFile saw file cut = (cut ≡ None) ⊎ CutsFile saw file cut
 
 -- The peer was opened under the actor on a journal that holds the bytes.
-pub record OpensJournal (bytes : List ℕ) (actor : Actor) (p : PeerData) : Type 0 where
+pub record OpensJournal (bytes : List ℕ) (actor : Actor) (p : PeerState) : Type 0 where
   pub opened : JournalState
   pub content : opened.content ≡ bytes
   pub reopens : Reopens opened actor p
 
--- The same, under the actor that is drawn under the key.
-pub record OpensUnder (key : Option (List ℕ)) (bytes : List ℕ) (p : PeerData) : Type 0 where
+-- The peer was opened on a journal that holds the bytes, under the actor that is drawn under the key.
+pub record OpensUnder (key : Option (List ℕ)) (bytes : List ℕ) (p : PeerState) : Type 0 where
   pub generator : ChaCha
   pub keyed : IsKeyed key generator
-  pub opens : OpensJournal bytes (drawn generator) p
+  pub opens : OpensJournal bytes (drawn_actor generator) p

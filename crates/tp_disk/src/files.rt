@@ -2,25 +2,26 @@
 
 ghost use Rattle.std.specs.Prelude.{◌≡◌, [], IfOk, OnOk, Ok};
 ghost use Rattle.tp_journal.specs.Calls.{IsAllSynced};
-ghost use Rattle.tp_journal.specs.Recovery.{Recovers};
+ghost use Rattle.tp_recovery.specs.Recovery.{Recovers};
 ghost use Rattle.tp_disk.specs.DiskView.{WasLeft, WasLocked, WasRead};
 ghost use Rattle.tp_disk.specs.Opening.{CutsJournal, KeepsTail};
 
 use crate::cutting::keep_cut;
 use crate::folders::Folders;
+use crate::locks::{FileId, lock_in};
 use std::fs::OpenFile;
 use std::io::{ErrorKind, Read, Seek, Write};
 use std::os::unix::fs::MetadataExt;
 use std::rt::Files;
 use std::{fs, io};
-use tp_commands::{CommandError, FileId, Lock, Recovery, lock_in};
+use tp_commands::{CommandError, Lock, Recovery};
 use tp_journal::{DurableJournal, Journal, Lockable, Recovered, Recovering};
 use tp_peer::PeerSequence;
 
 /// A journal that was opened to write.
 #[derive(Drop)]
 pub struct Opened<F: Write + OpenFile + Drop> {
-    /// The journal, of which all is on the disk that is told of it.
+    /// The journal. All that is said of it is on the disk.
     pub journal: DurableJournal<F>,
     /// What its content recovers to.
     pub recovered: Recovered<PeerSequence>,
@@ -47,7 +48,7 @@ pub trait Disk: Folders {
     fn read(&self, path: &str) -> Result<Vec<u8>, CommandError>
         ensures { IfOk result (λ bytes. Self.saw self.now (WasRead path.now bytes.items)) };
 
-    /// The same of a journal, which is recovered while its bytes are read.
+    /// The journal at a path, recovered while its bytes are read.
     fn recover(&self, path: &str) -> Result<Recovering<PeerSequence>, CommandError>
         ensures { IfOk result (λ journal. Self.saw self.now (WasRead path.now journal)) };
 
@@ -59,10 +60,10 @@ pub trait Disk: Folders {
     fn make_journal(&self, path: &str) -> Result<DurableJournal<Self::File>, CommandError>
         ensures { IfOk result (λ j. Self.saw self.now (WasLocked path.now j.file.content)) };
 
-    /// The same, with what its content recovers to, of which it holds no copy. An absent file is refused, and a journal that
-    /// doesn't recover. What opening it cuts off is put into a file of its own first where a whole record is in it, at the
-    /// path with `.cut-` and the offset of the first byte; one that is there already with other bytes is refused as
-    /// `JournalNotEmpty`.
+    /// The journal in a file, as [`make_journal`](Disk::make_journal) gives it, with what its content recovers to; it
+    /// holds no copy of the content. An absent file is refused, and a journal that doesn't recover. What opening it
+    /// cuts off is put into a file of its own first where a whole record is in it, at the path with `.cut-` and the
+    /// offset of the first byte; one that is there already with other bytes is refused as `JournalNotEmpty`.
     fn journal(&self, path: &str) -> Result<Opened<Self::File>, CommandError>
         ensures taken { IfOk result
             (λ o. Self.saw self.now (WasLocked path.now o.journal.file.content)) }
@@ -72,7 +73,7 @@ pub trait Disk: Folders {
         ensures cuts { IfOk result
             (λ o. CutsJournal (Self.saw self.now) path.now o.journal.file.content o.cut) };
 
-    /// The journal that was taken from the path was left with what is in it, all of which is on the disk.
+    /// The journal that was taken from the path was left with what is in it, and all of that is on the disk.
     fn leave(
         &self,
         path: &str,
@@ -116,7 +117,7 @@ fn opened_journal<R: Files + AllocGlobal>(
     }
 }
 
-/// The files of the system, of which its calls promise nothing.
+/// The files of the system. Its calls promise nothing of them.
 impl<R: Files + AllocGlobal> Disk for R
 where
     R::File: Lockable,

@@ -1,6 +1,6 @@
 //! The steps by which a file is put at a path.
 
-ghost use Rattle.std.specs.Prelude.{◌≡◌, List, ℕ, true, None, IfOk, IfSome, OnOk};
+ghost use Rattle.std.specs.Prelude.{◌≡◌, List, ℕ, true, None, IfOk, IfSome, OnOk, IsTrue};
 ghost use Rattle.std.specs.String.{string_bytes};
 ghost use Rattle.tp_disk.specs.DiskView.{DiskView, WasLeft};
 ghost use Rattle.tp_disk.specs.declared.folders.Found.TheVariants.{Other};
@@ -57,7 +57,7 @@ pub trait Folders {
         ensures { IfOk result (λ found. (mode : _) → found ≡ Other mode → is_open self.now path.now) };
 
     /// The path of the file itself, where this one may be that of a link. `None` where it leads to what is open already.
-    fn behind(&self, path: &str) -> Result<Option<String>, CommandError>
+    fn beyond(&self, path: &str) -> Result<Option<String>, CommandError>
         ensures place { IfOk result (λ found. IfSome found (λ place. (bytes : List ℕ)
             → saw self.now (WasLeft (string_bytes place) bytes)
             → saw self.now (WasLeft path.now bytes))) }
@@ -68,7 +68,7 @@ pub trait Folders {
 
     /// Whether the file at the path has just these bytes, so that it is one that was put there before.
     fn has(&self, path: &str, bytes: &[u8]) -> Result<bool, CommandError>
-        ensures { IfOk result (λ has. has ≡ true → named self.now path.now bytes.now) };
+        ensures { IfOk result (λ has. IsTrue has → named self.now path.now bytes.now) };
 
     /// A name for a file beside the one at the path, with 16 bytes that nobody can guess.
     fn name_beside(&self, path: &str) -> Result<String, CommandError>;
@@ -108,8 +108,8 @@ pub trait Folders {
         ensures { OnOk result ((bytes : List ℕ) → named self.now path.now bytes
             → saw self.now (WasLeft path.now bytes)) };
 
-    /// Writes behind what was written to what is open already.
-    fn write_behind(&self, path: &str, bytes: &[u8]) -> Result<(), CommandError>
+    /// Writes after what was written to what is open already.
+    fn write_after(&self, path: &str, bytes: &[u8]) -> Result<(), CommandError>
         requires { is_open self.now path.now }
         ensures { OnOk result (saw self.now (WasLeft path.now bytes.now)) };
 }
@@ -148,7 +148,7 @@ fn give_mode<F: OpenFile>(file: &F, mode: Permissions) -> io::Result<()> {
     }
 }
 
-/// The folders of the system, of which its calls promise nothing.
+/// The folders of the system. Its calls promise nothing of them.
 impl<R: Files + AllocGlobal> Folders for R {
     type New = R::File;
 
@@ -171,7 +171,7 @@ impl<R: Files + AllocGlobal> Folders for R {
         }
     }
 
-    fn behind(&self, path: &str) -> Result<Option<String>, CommandError> {
+    fn beyond(&self, path: &str) -> Result<Option<String>, CommandError> {
         let mut place = String::from_str(self.alloc(), path)?;
         for _ in 0..MOST_LINKS {
             if is_of_system(place.as_str()) {
@@ -245,7 +245,7 @@ impl<R: Files + AllocGlobal> Folders for R {
         }
     }
 
-    fn write_behind(&self, path: &str, bytes: &[u8]) -> Result<(), CommandError> {
+    fn write_after(&self, path: &str, bytes: &[u8]) -> Result<(), CommandError> {
         let mut file = OpenOptions::new().append(true).open(self, path)?;
         file.write_all(bytes)?;
         Ok(file.flush()?)

@@ -2,7 +2,7 @@
 
 ghost use Rattle.std.specs.Prelude.{◌≡◌, IfOk, IfSome};
 ghost use Rattle.rand_chacha.specs.ChaCha.{ChaCha};
-ghost use Rattle.tp_disk.specs.Keys.{IsKeyed, after_draw, drawn};
+ghost use Rattle.tp_disk.specs.Keys.{IsKeyed, after_draw, drawn_actor};
 
 use crate::files::Disk;
 use rand_chacha::ChaCha20Rng;
@@ -38,9 +38,9 @@ pub fn generator<D: Disk>(rt: &D, key: Option<[u8; 32]>) -> Result<ChaCha20Rng, 
 }
 
 /// An actor that is drawn from the generator.
-#[tactic(auto, unfolding(crate::specs::Keys::drawn, crate::specs::Keys::after_draw))]
+#[tactic(auto, unfolding(crate::specs::Keys::drawn_actor, crate::specs::Keys::after_draw))]
 pub fn draw(generator: &mut ChaCha20Rng) -> Actor
-    ensures actor { result ≡ drawn generator.old }
+    ensures actor { result ≡ drawn_actor generator.old }
     ensures after { generator.new ≡ after_draw generator.old }
 {
     fresh_actor(generator)
@@ -48,7 +48,7 @@ pub fn draw(generator: &mut ChaCha20Rng) -> Actor
 
 /// An actor that is drawn from the generator with the key, or with one that nobody can guess where none is given.
 pub fn draw_actor<D: Disk>(rt: &D, key: Option<[u8; 32]>) -> Result<Actor, CommandError>
-    ensures { IfOk result (λ actor. (g : ChaCha) × IsKeyed key g × (actor ≡ drawn g)) }
+    ensures { IfOk result (λ actor. (g : ChaCha) × IsKeyed key g × (actor ≡ drawn_actor g)) }
 {
     Ok(draw(&mut generator(rt, key)?))
 }

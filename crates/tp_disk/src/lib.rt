@@ -6,9 +6,11 @@ mod cutting;
 mod files;
 mod folders;
 mod keys;
+mod locks;
 mod replacing;
 
 pub use files::{Disk, Opened};
 pub use folders::{Folders, Found};
 pub use keys::{draw, draw_actor, generator, key_or_random};
+pub use locks::{FileId, lock_in};
 pub use replacing::{put_new, replace};

@@ -78,9 +78,9 @@ fn put_in_place<D: Folders>(
 fn put<D: Folders>(rt: &D, path: &str, mode: Permissions, bytes: &[u8]) -> Result<(), CommandError>
     ensures { OnOk result (D.saw rt.now (WasLeft path.now bytes.now)) }
 {
-    match rt.behind(path)? {
+    match rt.beyond(path)? {
         Some(place) => put_in_place(rt, place.as_str(), mode, bytes),
-        None => rt.write_behind(path, bytes),
+        None => rt.write_after(path, bytes),
     }
 }
 
@@ -103,7 +103,7 @@ pub fn replace<D: Disk>(rt: &D, path: &str, like: &str, bytes: &[u8]) -> Result<
             }
             put(rt, path, mode, bytes)
         }
-        Found::Other(_) => rt.write_behind(path, bytes),
+        Found::Other(_) => rt.write_after(path, bytes),
         Found::Nothing => put(rt, path, mode_of(rt, like)?, bytes),
     }
 }

@@ -1,27 +1,27 @@
--- The change of an edit fits behind the changes that it is made of, and does the splices.
-use Rattle.tp_document.proofs.Common.{take, drop, get_or, add-one, drop-cons, ◌≡◌, ℕ, ◌+◌, ◌<◌, ◌≤◌, ◌==◌, List, [], ◌∷◌, ◌++◌, length, false, cond, Some, None, refl, sym, ap, ◌∙◌, subst, arith, nat_tests, length-map, Actor, Hash, Insert, ChangeParts, hash_of, inserts_in, inserts, deletes_in, deletes, next_counter, IsInOrder, shown, chars_of, IsTextOf, has_all, past, defect, or_full, most_changes, count_by, Sound, Fits-at, deps_first, AllInRange, total_count, records_of, visible_ids, Asked, AreInRange, IsEdit, Edited, inserts_tree, take-append-drop, same_actor-same, Record, ops_from, order_exists, one_order, inserts-push, deletes-push, has, Fits, defect-from_Fits, Sound-push, past-heads, Splice, all_spliced, Fits-from_cause, length-take-le, refers, clashes, not_true, has_all-heads, seqs_run, inserted, spliced}
+-- The change of an edit fits after the changes that it is made of, and does the splices.
+use Rattle.tp_document.proofs.Common.{take, drop, get_or, add-one, drop-cons, ◌≡◌, ℕ, ◌+◌, ◌<◌, ◌≤◌, ◌==◌, List, [], ◌∷◌, ◌++◌, length, false, cond, Some, None, refl, sym, ap, ◌∙◌, subst, arith, nat_tests, length-map, Actor, Hash, Insert, ChangeParts, hash_of, inserts_in, inserts, deletes_in, deletes, next_counter, IsInOrder, visible_of, chars_of, IsTextOf, has_all, past, defect, or_full, most_changes, count_by, Sound, Fits-at, deps_first, AllInRange, total_count, records_of_edit, visible_ids, EditRequest, AreInRange, IsEdit, IsAcceptedEdit, inserts_tree, take-append-drop, same_actor-same, Record, ops_from, order_exists, one_order, inserts-push, deletes-push, has, Fits, defect-from_Fits, Sound-push, past-heads, Splice, all_spliced, Fits-from_cause, length-take-le, refers, clashes, not_true, has_all-heads, seqs_run, inserted_chars, splice_at}
 use Rattle.tp_change.specs.Operations.{ops_of}
-use Rattle.tp_graph.specs.declared.error.GraphError.TheVariants.{Full}
-use Rattle.tp_graph.specs.Fit.{cause}
-use Rattle.tp_edit.specs.EditLaw.{IsReady, DoesItsSplices, ops_of_edit}
+use Rattle.tp_history.specs.declared.error.GraphError.TheVariants.{Full}
+use Rattle.tp_history.specs.Fit.{cause}
+use Rattle.tp_edit.specs.EditLaw.{IsEditable, DoesItsSplices, ops_of_edit}
 use Rattle.tp_edit.proofs.Edited.{edit_law}
-use Rattle.tp_document.proofs.SoundText.{AllUnder-inserts, targets_there}
-use Rattle.tp_graph.proofs.ClashLaws.{clash_of}
-use Rattle.tp_document.proofs.ShowingLaws.{one_text}
+use Rattle.tp_document.proofs.SoundText.{IsAboveAll-inserts, targets_there}
+use Rattle.tp_history.proofs.ClashLaws.{clash_of}
+use Rattle.tp_snapshot.proofs.ShowingLaws.{one_text}
 
 -- a text to edit
-ready_of : (C : List ChangeParts) (L : List Insert) (a : Actor) → Sound C → IsInOrder (inserts C) L → IsReady (inserts C) L (deletes C) a (next_counter C)
+ready_of : (C : List ChangeParts) (L : List Insert) (a : Actor) → Sound C → IsInOrder (inserts C) L → IsEditable (inserts C) L (deletes C) a (next_counter C)
 ready_of C L a s order = record {
   tree = inserts_tree C s;
   order = order;
-  above = AllUnder-inserts C a;
+  above = IsAboveAll-inserts C a;
   targets = targets_there C s;
 }
 
 -- what is in range of the text is in range of what any list of its elements shows
-pub range_of : (C : List ChangeParts) (L : List Insert) (ss : List Splice) → Sound C → IsInOrder (inserts C) L → AreInRange C ss → AllInRange (length (shown (deletes C) L)) ss
+pub range_of : (C : List ChangeParts) (L : List Insert) (ss : List Splice) → Sound C → IsInOrder (inserts C) L → AreInRange C ss → AllInRange (length (visible_of (deletes C) L)) ss
 range_of C L ss s order range =
-    let W = shown (deletes C) L in
+    let W = visible_of (deletes C) L in
     let same : range.0 ≡ chars_of W = one_text C range.0 (chars_of W) s range.1 (record { elements = L; order = order; spells = refl }) in
     subst (λ n. AllInRange n ss) (ap length same ∙ length-map W (λ (x : Insert). x.ch)) range.2
 
@@ -29,7 +29,7 @@ does : (C : List ChangeParts) (L : List Insert) (a : Actor) (ss : List Splice) �
 does C L a ss s order range = edit_law (inserts C) L (deletes C) a (next_counter C) ss (ready_of C L a s order) (range_of C L ss s order range)
 
 -- the operations of the change of an edit are those of the edit
-ops_are : (C : List ChangeParts) (asked : Asked) (c : ChangeParts) (e : IsEdit C asked c) → ops_of c ≡ ops_of_edit asked.actor (next_counter C) e.elements (deletes C) asked.splices
+ops_are : (C : List ChangeParts) (asked : EditRequest) (c : ChangeParts) (e : IsEdit C asked c) → ops_of c ≡ ops_of_edit asked.actor (next_counter C) e.elements (deletes C) asked.splices
 unfolding ops_of
 ops_are C asked c e =
     ap (λ a. ops_from a c.start c.records) e.actor
@@ -48,7 +48,7 @@ no_clash C c s e =
     absurd (omega arith))
 
 -- the change of an edit fits
-pub edit_fits : (C : List ChangeParts) (asked : Asked) (c : ChangeParts) → Sound C → IsEdit C asked c → AreInRange C asked.splices → has C (hash_of c) ≡ false → Fits C c
+pub edit_fits : (C : List ChangeParts) (asked : EditRequest) (c : ChangeParts) → Sound C → IsEdit C asked c → AreInRange C asked.splices → has C (hash_of c) ≡ false → Fits C c
 edit_fits C asked c s e range new =
     let whole : past C c.deps ≡ C = ap (past C) e.deps ∙ past-heads C (deps_first C s) in
     let seq : c.seq ≡ count_by c.actor C + 1 = e.seq ∙ ap (λ a. count_by a C + 1) (sym e.actor) in
@@ -64,7 +64,7 @@ edit_fits C asked c s e range new =
       free = no_clash C c s seq;
     }
 
-pub edit_enters : (C : List ChangeParts) (asked : Asked) (c : ChangeParts) → Sound C → IsEdit C asked c → AreInRange C asked.splices → has C (hash_of c) ≡ false → length C < most_changes → cause C c ≡ None
+pub edit_enters : (C : List ChangeParts) (asked : EditRequest) (c : ChangeParts) → Sound C → IsEdit C asked c → AreInRange C asked.splices → has C (hash_of c) ≡ false → length C < most_changes → cause C c ≡ None
 unfolding cause
 edit_enters C asked c s e range new few =
     let none : defect C c ≡ None = defect-from_Fits C c (edit_fits C asked c s e range new) in
@@ -74,7 +74,7 @@ edit_enters C asked c s e range new few =
       below n lt = grind (arith, nat_tests)
 
 -- the text after the change of an edit is the text before with each splice done in turn
-pub edit_text : (C : List ChangeParts) (asked : Asked) (c : ChangeParts) (t : List ℕ) → Sound C → Edited C asked c → IsTextOf C t → IsTextOf (C ++ c ∷ []) (all_spliced t asked.splices)
+pub edit_text : (C : List ChangeParts) (asked : EditRequest) (c : ChangeParts) (t : List ℕ) → Sound C → IsAcceptedEdit C asked c → IsTextOf C t → IsTextOf (C ++ c ∷ []) (all_spliced t asked.splices)
 edit_text C asked c t s edited text =
     let e = edited.edit in
     let a = asked.actor in
@@ -88,12 +88,12 @@ edit_text C asked c t s edited text =
     let gone : deletes (C ++ c ∷ []) ≡ deletes C ++ deletes_in ops = deletes-push C c ∙ ap (λ o. deletes C ++ deletes_in o) (ops_are C asked c e) in
     let found = order_exists (inserts (C ++ c ∷ [])) (inserts_tree (C ++ c ∷ []) sound) in
     let M = found.0 in
-    let shows : chars_of (shown (deletes C ++ deletes_in ops) M) ≡ all_spliced (chars_of (shown (deletes C) L)) ss = done.text M (subst (λ S. IsInOrder S M) there found.1) in
-    let before : t ≡ chars_of (shown (deletes C) L) = one_text C t (chars_of (shown (deletes C) L)) s text (record { elements = L; order = e.order; spells = refl }) in
+    let shows : chars_of (visible_of (deletes C ++ deletes_in ops) M) ≡ all_spliced (chars_of (visible_of (deletes C) L)) ss = done.text M (subst (λ S. IsInOrder S M) there found.1) in
+    let before : t ≡ chars_of (visible_of (deletes C) L) = one_text C t (chars_of (visible_of (deletes C) L)) s text (record { elements = L; order = e.order; spells = refl }) in
     record {
       elements = M;
       order = found.1;
-      spells = ap (λ u. all_spliced u ss) before ∙ sym shows ∙ ap (λ R. chars_of (shown R M)) (sym gone);
+      spells = ap (λ u. all_spliced u ss) before ∙ sym shows ∙ ap (λ R. chars_of (visible_of R M)) (sym gone);
     }
 
 -- ---- splices that ask nothing
@@ -106,11 +106,11 @@ pub nothing_spliced : (ss : List Splice) (t : List ℕ) → total_count ss ≡ 0
 nothing_spliced [] t e = refl
 nothing_spliced (s ∷ ss) t e =
     let del : s.del ≡ 0 = omega arith in
-    let none : inserted s ≡ [] = no_text (inserted s) (omega arith) in
+    let none : inserted_chars s ≡ [] = no_text (inserted_chars s) (omega arith) in
     let rest : total_count ss ≡ 0 = omega arith in
     let at : s.at + s.del ≡ s.at = omega arith in
-    let same : spliced t s.at s.del (inserted s) ≡ t =
-    ap (λ n. take s.at t ++ (inserted s ++ drop n t)) at
+    let same : splice_at t s.at s.del (inserted_chars s) ≡ t =
+    ap (λ n. take s.at t ++ (inserted_chars s ++ drop n t)) at
     ∙ ap (λ new. take s.at t ++ (new ++ drop s.at t)) none
     ∙ take-append-drop s.at t in
     ap (λ u. all_spliced u ss) same ∙ nothing_spliced ss t rest
@@ -132,13 +132,13 @@ same_parts c d a s n t m h r =
     ap (λ x. made_of d.actor d.seq d.start d.time d.message x c.records) h ∙ ap (λ x. made_of d.actor d.seq d.start d.time d.message d.deps x) r in
     one ∙ two ∙ three ∙ four
 
-pub edit_determined : (C : List ChangeParts) (asked : Asked) (c d : ChangeParts) → Sound C → IsEdit C asked c → IsEdit C asked d → c ≡ d
+pub edit_determined : (C : List ChangeParts) (asked : EditRequest) (c d : ChangeParts) → Sound C → IsEdit C asked c → IsEdit C asked d → c ≡ d
 edit_determined C asked c d s e f =
     let same = one_order (inserts C) e.elements f.elements (inserts_tree C s) e.order f.order in
     same_parts c d (e.actor ∙ sym f.actor) (e.seq ∙ sym f.seq) (e.start ∙ sym f.start) (e.time ∙ sym f.time) (e.message ∙ sym f.message) (e.deps ∙ sym f.deps)
-    (e.records ∙ ap (λ L. records_of asked.actor (next_counter C) (visible_ids (deletes C) L) asked.splices) same ∙ sym f.records)
+    (e.records ∙ ap (λ L. records_of_edit asked.actor (next_counter C) (visible_ids (deletes C) L) asked.splices) same ∙ sym f.records)
 
--- ---- each change of a sound list enters behind those before it
+-- ---- each change of a sound list enters after those before it
 
 pub prefix_enters : (C : List ChangeParts) (i : ℕ) (x : ChangeParts) → Sound C → length C ≤ most_changes → i < length C → x ≡ get_or C i x → cause (take i C) x ≡ None
 unfolding cause

@@ -1,13 +1,13 @@
 -- The change of an edit is within the limits of changes.
-use Rattle.tp_document.proofs.Common.{◌≡◌, ℕ, ◌+◌, ◌<◌, ◌≤◌, ◌^◌, inl, inr, List, [], ◌∷◌, length, not, refl, sym, ap, ◌∙◌, subst, arith, length-map, In, Actor, Hash, OpId, Insert, Op, ChangeParts, inserts_in, inserts, deletes, next_counter, ops_of, is_removed, shown, IsInOrder, Numbered-ops_of, Numbered, length-ops_of, Sound, inserts-In, AllInRange, total_count, records_of, visible_ids, AllChanges, Asked, IsEdit, AllByRecursion, all_scalars, IsRecord, IsChange, In-filter, flat_map, IsActor, IsHash, heads-In, heads_rise, one-next_counter, ids_of, HasCounters, encode_utf8_all, hash_cmp, IsTypedAsk}
+use Rattle.tp_document.proofs.Common.{◌≡◌, ℕ, ◌+◌, ◌<◌, ◌≤◌, ◌^◌, inl, inr, List, [], ◌∷◌, length, not, refl, sym, ap, ◌∙◌, subst, arith, length-map, In, Actor, Hash, OpId, Insert, Op, ChangeParts, inserts_in, inserts, deletes, next_counter, ops_of, is_removed, visible_of, IsInOrder, Numbered-ops_of, Numbered, length-ops_of, Sound, inserts-In, AllInRange, total_count, records_of_edit, visible_ids, AllChanges, EditRequest, IsEdit, AllByRecursion, all_scalars, IsRecord, IsChange, In-filter, flat_map, IsActor, IsHash, heads-In, heads_rise, one-next_counter, ids_of, HasCounters, encode_utf8_all, hash_cmp, IsTypedAsk}
 use Rattle.tp_list.specs.Rising.{IsRising}
 use Rattle.tp_change.specs.declared.op.Op.TheVariants as op_of
 use Rattle.tp_change.specs.Operations.{op_count}
-use Rattle.tp_change.specs.Operations as operations
-use Rattle.tp_change.specs.Spelling.{spelling, spelling_of_message, spelling_of_deps, spelling_of_record}
-use Rattle.tp_change.proofs.SpellingLaws.{hash_of_is}
-use Rattle.tp_change.proofs.WholeChange.{length-spelling}
-use Rattle.tp_graph.specs.Heads as head
+use Rattle.tp_layout.specs.Counts as operations
+use Rattle.tp_layout.specs.Spelling.{spelling, spelling_of_message, spelling_of_deps, spelling_of_record}
+use Rattle.tp_change.proofs.HashLaws.{hash_of_is}
+use Rattle.tp_layout.proofs.WholeChange.{length-spelling}
+use Rattle.tp_history.specs.Heads as head
 use Rattle.tp_edit.specs.EditLimits.{AllIds, AllTexts}
 use Rattle.tp_edit.proofs.RecordLimits.{count_of-records_of, some_record, records_of-IsRecord, AllTexts-size}
 use Rattle.tp_document.proofs.SoundText.{actor_of}
@@ -45,7 +45,7 @@ In-ids (y ∷ L) x (inr i) = let w = In-ids L x i in (w.0, inr w.1, w.2)
 
 ids_are : (C : List ChangeParts) (L : List Insert) → AllChanges C → IsInOrder (inserts C) L → AllIds (visible_ids (deletes C) L)
 ids_are C L all order x i =
-    let w = In-ids (shown (deletes C) L) x i in
+    let w = In-ids (visible_of (deletes C) L) x i in
     let j = In-filter (λ (e : Insert). not (is_removed (deletes C) e.id)) L w.0 w.1 in
     subst (λ (y : OpId). (y.counter < 2 ^ 48) × IsActor y.actor) (sym w.2) (id_is C all w.0 (order.same.back w.0 j.0))
 
@@ -61,14 +61,14 @@ heads_are C = all_hashes (head.heads C) (λ h i. let w = heads-In C h i in subst
 -- ---- the change
 
 -- Where its bytes are within the limit, and what is judged before them is too, the change of an edit is one.
-pub edit_limits : (C : List ChangeParts) (asked : Asked) (c : ChangeParts) → Sound C → AllChanges C → IsEdit C asked c → HasCounters C asked → IsTypedAsk asked → c.seq < 2 ^ 64 → length (encode_utf8_all asked.message) ≤ 65535 → length (spelling c) ≤ 4194304 → IsChange c
+pub edit_limits : (C : List ChangeParts) (asked : EditRequest) (c : ChangeParts) → Sound C → AllChanges C → IsEdit C asked c → HasCounters C asked → IsTypedAsk asked → c.seq < 2 ^ 64 → length (encode_utf8_all asked.message) ≤ 65535 → length (spelling c) ≤ 4194304 → IsChange c
 edit_limits C asked c s all e h typed seq message size =
     let ss = asked.splices in
     let n = next_counter C in
     let V = visible_ids (deletes C) e.elements in
-    let rs = records_of asked.actor n V ss in
+    let rs = records_of_edit asked.actor n V ss in
     let asks = h.before.asks in
-    let range : AllInRange (length V) ss = subst (λ k. AllInRange k ss) (sym (length-map (shown (deletes C) e.elements) (λ (x : Insert). x.id))) (range_of C e.elements ss s e.order asks.range) in
+    let range : AllInRange (length V) ss = subst (λ k. AllInRange k ss) (sym (length-map (visible_of (deletes C) e.elements) (λ (x : Insert). x.id))) (range_of C e.elements ss s e.order asks.range) in
     let count : operations.count_of c.records ≡ total_count ss = ap operations.count_of e.records ∙ count_of-records_of asked.actor n V ss range in
     let spelled : length (flat_map spelling_of_record c.records) ≤ 4194304 = within (length (spelling c)) (length c.actor.0) (length (spelling_of_message c.message)) (length (spelling_of_deps c.deps)) (length (flat_map spelling_of_record c.records)) (length-spelling c) size in
     let texts : AllTexts ss = AllTexts-size asked.actor n V ss typed.texts (subst (λ r. length (flat_map spelling_of_record r) ≤ 4194304) e.records spelled) in

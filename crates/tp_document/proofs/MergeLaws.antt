@@ -1,7 +1,7 @@
 -- What is absent from a document: none of it has to wait.
 use Rattle.tp_document.proofs.Common.{◌≡◌, ℕ, ◌+◌, ◌≤◌, inl, inr, List, [], ◌∷◌, ◌++◌, length, true, false, cond, refl, sym, ap, ◌∙◌, subst, arith, append_assoc, nat_lt, truth, nat_tests, Hash, ChangeParts, hash_of, has_all, Sound, Fits-at, has, absent, In-last, or_cases, same_hash, same_hash-same}
 use Rattle.tp_graph.specs.GraphState.{most_waiting}
-use Rattle.tp_graph.proofs.NamedLaws.{has-append, has-left, has_all-In, In-has_all, In-has}
+use Rattle.tp_history.proofs.NamedLaws.{has-append, has-left, has_all-In, In-has_all, In-has}
 use Rattle.tp_receive.specs.Delivery.{delivery, with_slots, slots, is_full}
 
 pub absent-append : (C A B : List ChangeParts) → absent C (A ++ B) ≡ absent C A ++ absent C B
@@ -28,7 +28,7 @@ Covers-push D E A c cover more there h t =
       ]
     ]
 
--- Where D has what C has and the changes A before, none of those behind them that C lacks takes a place.
+-- Where D has what C has and the changes A before, none of those after them that C lacks takes a place.
 none_placed : (C D A B V : List ChangeParts) → Covers D C → Covers D A → Sound (A ++ B) → slots (with_slots V (delivery D (absent C B))) ≡ 0
 none_placed C D A [] V old cover s = refl
 none_placed C D A (b ∷ B) V old cover s =

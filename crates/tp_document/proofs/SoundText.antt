@@ -1,23 +1,24 @@
--- The elements of sound changes: they are a tree, the next counter stands above them, and the operations of a change
+-- The elements of sound changes: they are a tree, the next counter is above them, and the operations of a change
 -- that fits may come.
-use Rattle.tp_document.proofs.Common.{◌≡◌, ℕ, ◌+◌, ◌≤◌, ◌==◌, inl, inr, List, [], ◌∷◌, ◌++◌, length, Bool, true, false, Option, Some, None, refl, sym, ap, ◌∙◌, subst, arith, append_assoc, length-append, nat_tests, In, Actor, OpId, Insert, same_actor, id_eq, Op, ChangeParts, id_of, ops_of, inserts_in, inserts, deletes_in, deletes, next_counter, IsInOrder, In-append, Numbered-ops_of, Numbered, length-ops_of, inserts-In, past, defect, or_full, most_changes, Sound, truth, past-In, inserts_tree, Holds, id_eq-same, IsChange, In-left, inserts-push, deletes-push, In-inserts, inserts-more, next_counter-above, Fits, Sound-push, own_past, Fits-from_cause, same_actor-apart, element, sound-induct, IsThere, IsThere-grow}
+use Rattle.tp_document.proofs.Common.{◌≡◌, ℕ, ◌+◌, ◌≤◌, ◌==◌, inl, inr, List, [], ◌∷◌, ◌++◌, length, Bool, true, false, Option, Some, None, refl, sym, ap, ◌∙◌, subst, arith, append_assoc, length-append, nat_tests, In, Actor, OpId, Insert, same_actor, id_eq, Op, ChangeParts, id_of, ops_of, inserts_in, inserts, deletes_in, deletes, next_counter, IsInOrder, In-append, Numbered-ops_of, Numbered, length-ops_of, inserts-In, past, defect, or_full, most_changes, Sound, truth, past-In, inserts_tree, DocumentInvariant, id_eq-same, IsChange, In-left, inserts-push, deletes-push, In-inserts, inserts-more, next_counter-above, Fits, Sound-push, own_past, Fits-from_cause, same_actor-apart, element, sound-induct, IsThere, IsThere-grow}
 use Rattle.tp_change.specs.declared.op.Op.TheVariants as op_of
-use Rattle.tp_text.specs.Applying.{CanApply, Extends, AllUnder}
-use Rattle.tp_text.proofs.Applied.{CanApply-same}
-use Rattle.tp_text.proofs.Numbered.{IsFresh, IsFresh-under, CanApply-refers, AllUnder-ops, AllUnder-up}
-use Rattle.tp_graph.specs.declared.error.GraphError.{GraphError}
-use Rattle.tp_graph.specs.Fit.{cause}
+use Rattle.tp_edit.specs.Applying.{CanApply, Extends}
+use Rattle.tp_edit.proofs.Applied.{CanApply-same}
+use Rattle.tp_edit.proofs.Numbered.{IsFresh, IsFresh-under, CanApply-refers, IsAboveAll-ops, IsAboveAll-up}
+use Rattle.tp_history.specs.declared.error.GraphError.{GraphError}
+use Rattle.tp_history.specs.Fit.{cause}
+use Rattle.tp_opid.specs.Tree.{IsAboveAll}
 
 -- ---- the next counter
 
--- the next counter stands above all elements
-pub AllUnder-inserts : (C : List ChangeParts) (a : Actor) → AllUnder (inserts C) (id_of a (next_counter C))
-AllUnder-inserts C a e i =
+-- the next counter is above all elements
+pub IsAboveAll-inserts : (C : List ChangeParts) (a : Actor) → IsAboveAll (inserts C) (id_of a (next_counter C))
+IsAboveAll-inserts C a e i =
     let w = inserts-In C e i in
     let c = w.0 in
-    let under : AllUnder (inserts_in (ops_of c)) (id_of a (c.start + length (ops_of c))) = AllUnder-ops (ops_of c) c.actor a c.start (Numbered-ops_of c) in
+    let under : IsAboveAll (inserts_in (ops_of c)) (id_of a (c.start + length (ops_of c))) = IsAboveAll-ops (ops_of c) c.actor a c.start (Numbered-ops_of c) in
     let le : c.start + length (ops_of c) ≤ next_counter C = subst (λ n. c.start + n ≤ next_counter C) (sym (length-ops_of c)) (next_counter-above C c w.1) in
-    AllUnder-up (inserts_in (ops_of c)) a (c.start + length (ops_of c)) (next_counter C) le under e w.2
+    IsAboveAll-up (inserts_in (ops_of c)) a (c.start + length (ops_of c)) (next_counter C) le under e w.2
 
 -- the elements of an actor's operations have its identifiers
 pub actor_of : (ops : List Op) (a : Actor) (n : ℕ) (e : Insert) → Numbered a n ops → In e (inserts_in ops) → e.id.actor ≡ a
@@ -37,7 +38,7 @@ fresh C c s f e i k le =
     let P = past C c.deps in
     elim (truth (same_actor d.actor c.actor)) [
       | inl mine ↦
-          let under : AllUnder (inserts P) (id_of c.actor c.start) = subst (λ n. AllUnder (inserts P) (id_of c.actor n)) (sym f.start) (AllUnder-inserts P c.actor) in
+          let under : IsAboveAll (inserts P) (id_of c.actor c.start) = subst (λ n. IsAboveAll (inserts P) (id_of c.actor n)) (sym f.start) (IsAboveAll-inserts P c.actor) in
           IsFresh-under (inserts P) c.actor c.start under e (In-inserts P d e (own_past C c d s f w.1 mine) w.2) k le
       | inr other ↦
           let who : e.id.actor ≡ d.actor = actor_of (ops_of d) d.actor d.start e (Numbered-ops_of d) w.2 in
@@ -48,7 +49,7 @@ fresh C c s f e i k le =
 pub CanApply-fits : (C : List ChangeParts) (c : ChangeParts) → Sound C → Fits C c → CanApply (inserts C) (ops_of c)
 CanApply-fits C c s f =
     let P = past C c.deps in
-    let under : AllUnder (inserts P) (id_of c.actor c.start) = subst (λ n. AllUnder (inserts P) (id_of c.actor n)) (sym f.start) (AllUnder-inserts P c.actor) in
+    let under : IsAboveAll (inserts P) (id_of c.actor c.start) = subst (λ n. IsAboveAll (inserts P) (id_of c.actor n)) (sym f.start) (IsAboveAll-inserts P c.actor) in
     CanApply-refers (ops_of c) (inserts P) (inserts C) c.actor c.start (Numbered-ops_of c) (inserts-more P C (past-In C c.deps)) under (fresh C c s f) f.refs
 
 -- ---- targets
@@ -80,8 +81,8 @@ targets_there = sound-induct HasTargets (λ r i. absurd i) targets_step
 -- ---- a document and one change more
 
 -- the operations of a change that can enter may come
-pub Holds-applies : (C : List ChangeParts) (L : List Insert) (R : List (OpId × OpId)) (c : ChangeParts) → Holds C L R → cause C c ≡ None → CanApply L (ops_of c)
-Holds-applies C L R c h none = CanApply-same (inserts C) L h.order.same (ops_of c) (CanApply-fits C c h.sound (Fits-from_cause C c none))
+pub DocumentInvariant-applies : (C : List ChangeParts) (L : List Insert) (R : List (OpId × OpId)) (c : ChangeParts) → DocumentInvariant C L R → cause C c ≡ None → CanApply L (ops_of c)
+DocumentInvariant-applies C L R c h none = CanApply-same (inserts C) L h.order.same (ops_of c) (CanApply-fits C c h.sound (Fits-from_cause C c none))
 
 few_more : (C : List ChangeParts) (c : ChangeParts) → length C ≤ most_changes → cause C c ≡ None → length (C ++ c ∷ []) ≤ most_changes
 unfolding cause
@@ -98,9 +99,9 @@ few_more C c few none =
       fewer n m few apart more = grind (arith, nat_tests)
 
 -- and once they are in, the document holds the change too
-pub Holds-push : (C : List ChangeParts) (L M : List Insert) (R Q : List (OpId × OpId)) (c : ChangeParts)
-    → Holds C L R → cause C c ≡ None → IsChange c → Extends L M (ops_of c) → Q ≡ R ++ deletes_in (ops_of c) → Holds (C ++ c ∷ []) M Q
-Holds-push C L M R Q c h none limits grown more =
+pub DocumentInvariant-push : (C : List ChangeParts) (L M : List Insert) (R Q : List (OpId × OpId)) (c : ChangeParts)
+    → DocumentInvariant C L R → cause C c ≡ None → IsChange c → Extends L M (ops_of c) → Q ≡ R ++ deletes_in (ops_of c) → DocumentInvariant (C ++ c ∷ []) M Q
+DocumentInvariant-push C L M R Q c h none limits grown more =
     let f = Fits-from_cause C c none in
     let placed = grown.order (inserts C) (inserts_tree C h.sound) h.order in
     record {

@@ -1,9 +1,9 @@
 -- Laws of the texts of sets and of pasts.
-use Rattle.tp_document.proofs.Common.{◌≡◌, ◌↔◌, ℕ, List, ◌++◌, true, refl, sym, ap, ◌∙◌, subst, In, Hash, ChangeParts, hash_of, inserts, deletes, shown, chars_of, IsTextOf, has_all, past, Sound, deps_first, sound_pasts, inserts_tree, AllIn, SameMembers, order_exists, order_of_set, shown_of_set, inserts-more, past-heads, Sound-before}
-use Rattle.tp_graph.specs.Heads as head
-use Rattle.tp_graph.proofs.SetLaws.{heads_decide}
-use Rattle.tp_document.proofs.PastElements.{In-deletes, deletes-In}
-use Rattle.tp_document.proofs.ShowingLaws.{one_text}
+use Rattle.tp_document.proofs.Common.{◌≡◌, ◌↔◌, ℕ, List, ◌++◌, true, refl, sym, ap, ◌∙◌, subst, In, Hash, ChangeParts, hash_of, inserts, deletes, visible_of, chars_of, IsTextOf, has_all, past, Sound, deps_first, sound_pasts, inserts_tree, AllIn, SameMembers, order_exists, order_of_set, shown_of_set, inserts-more, past-heads, Sound-before}
+use Rattle.tp_history.specs.Heads as head
+use Rattle.tp_history.proofs.SetLaws.{heads_decide}
+use Rattle.tp_snapshot.proofs.PastElements.{In-deletes, deletes-In}
+use Rattle.tp_snapshot.proofs.ShowingLaws.{one_text}
 
 deletes-more : (C D : List ChangeParts) → AllIn C D → AllIn (deletes C) (deletes D)
 deletes-more C D more r i = let w = deletes-In C r i in In-deletes D w.0 r (more w.0 w.1) w.2
@@ -40,7 +40,7 @@ pub each_past_has_a_text : (C : List ChangeParts) (H : List Hash) → Sound C �
 each_past_has_a_text C H s =
     let P = past C H in
     let found = order_exists (inserts P) (inserts_tree P (sound_pasts C s H)) in
-    (chars_of (shown (deletes P) found.0), record { elements = found.0; order = found.1; spells = refl })
+    (chars_of (visible_of (deletes P) found.0), record { elements = found.0; order = found.1; spells = refl })
 
 pub later_changes_leave_the_text_at_heads : (C D : List ChangeParts) (H : List Hash) (t : List ℕ) → has_all C H ≡ true → Sound (C ++ D) → IsTextOf (past (C ++ D) H) t ↔ IsTextOf (past C H) t
 later_changes_leave_the_text_at_heads C D H t all s = same_list (past (C ++ D) H) (past C H) t (Sound-before C D H all s)

@@ -4,7 +4,7 @@ use Rattle.tp_document.specs.Common.{DocId}
 use Rattle.tp_receive.specs.declared.intake.Applied.{Applied}
 use Rattle.tp_receive.specs.declared.keeper.NoKeeper.{NoKeeper}
 use Rattle.tp_receive.specs.Intake.{Receiver, receiver}
-use Rattle.tp_receive.specs.Outcome.{Done, Outcome, Stopped, alone, report_of}
+use Rattle.tp_receive.specs.Outcome.{Done, Outcome, Stopped, unkept_receiver, report_of}
 use Rattle.tp_document.specs.declared.error.DocError.{DocError}
 use Rattle.tp_document.specs.declared.error.DocError.TheVariants.{OtherDocument}
 use Rattle.tp_document.specs.DocError.{receiving}
@@ -14,9 +14,9 @@ use Rattle.tp_document.specs.DocState.{DocState}
 abbrev pub kept_by : {S : Type 0} → S → DocState → Receiver S
 kept_by k d = receiver k d.applied d.waiting
 
--- the same, where nobody keeps its changes
+-- the document as what receives, where nobody keeps its changes
 abbrev pub kept_by_none : DocState → Receiver NoKeeper
-kept_by_none d = alone d.applied d.waiting
+kept_by_none d = unkept_receiver d.applied d.waiting
 
 -- What a merge of a document with the identifier b into one with the identifier a answered, which left of s t:
 -- OtherDocument exactly where the two differ, and then nothing was done; else an outcome that is as P says.

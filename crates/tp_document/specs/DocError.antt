@@ -1,7 +1,9 @@
--- The numbers of the refusals, and what stands for the refusals of a graph.
+-- The numbers of the refusals, and what stands for those of the crates below.
 use Rattle.std.specs.Prelude.{ℕ, Option, Some, None}
 use Rattle.tp_receive.specs.declared.error.ReceiveError.{ReceiveError}
 use Rattle.tp_receive.specs.declared.error.ReceiveError.TheVariants as receive
+use Rattle.tp_snapshot.specs.declared.error.SnapshotError.{SnapshotError}
+use Rattle.tp_snapshot.specs.declared.error.SnapshotError.TheVariants as snapshot
 use Rattle.tp_document.specs.declared.error.DocError.{DocError}
 use Rattle.tp_document.specs.declared.error.DocError.TheVariants.{OutOfRange, CounterLimit, TooManyOps, TooManyHeads, UnknownHead, UnknownElement, PendingFull, HashTaken, OutOfMemory, OtherDocument, TooLong, Full, NotKept}
 
@@ -26,3 +28,8 @@ receiving PendingFull = Some receive.PendingFull
 receiving NotKept = Some receive.NotKept
 receiving OutOfMemory = Some receive.OutOfMemory
 receiving _ = None
+
+-- the refusal that one of a snapshot is
+abbrev pub refusal_of_snapshot : SnapshotError → DocError
+refusal_of_snapshot snapshot.UnknownHead = UnknownHead
+refusal_of_snapshot snapshot.OutOfMemory = OutOfMemory

@@ -1,6 +1,6 @@
 -- What contracts see of a document, and what it keeps.
 use Rattle.std.specs.Prelude.{◌≡◌, ℕ, ◌≤◌, List, [], length, Option, Some}
-use Rattle.tp_document.specs.Common.{In, Hash, OpId, Insert, ChangeParts, hash_of, inserts, deletes, IsChange, IsInOrder, most_changes, Sound, DocId}
+use Rattle.tp_document.specs.Common.{In, Hash, OpId, Insert, ChangeParts, hash_of, inserts, deletes, AllChanges, IsInOrder, most_changes, Sound, DocId}
 use Rattle.tp_change.specs.Operations.{op_count}
 
 -- Its identifier; the changes that are applied, in the order in which they entered; those that wait, in the order in
@@ -30,16 +30,3 @@ pub record HasJust (id : DocId) (C : List ChangeParts) (d : DocState) : Type 0 w
   pub named : d.id ≡ id
   pub applied : d.applied ≡ C
   pub waiting : d.waiting ≡ []
-
--- Each change is within the limits of changes.
-abbrev pub AllChanges : List ChangeParts → Type 0
-AllChanges C = (c : ChangeParts) → In c C → IsChange c
-
--- What a document keeps of its applied changes: they are sound and within limits, and the sequence has the elements
--- that they insert, in order, and their deletes.
-pub record Holds (applied : List ChangeParts) (placed : List Insert) (removals : List (OpId × OpId)) : Type 0 where
-  pub sound : Sound applied
-  pub limits : AllChanges applied
-  pub few : length applied ≤ most_changes
-  pub order : IsInOrder (inserts applied) placed
-  pub deletes : removals ≡ deletes applied

@@ -1,13 +1,8 @@
 pub mod Common
 pub mod DocError
 pub mod DocState
-pub mod Showing
 pub mod Editing
 pub mod Making
 pub mod Merging
 pub mod Applying
-pub mod History
-pub mod Views
-pub mod Windows
-pub mod Differences
-pub mod Effects
+pub mod Forking

@@ -1,7 +1,7 @@
 //! Receiving changes, in a list or from another document.
 
 ghost use Rattle.std.specs.Prelude.{◌≡◌, false};
-ghost use Rattle.tp_graph.specs.Sound.{Sound};
+ghost use Rattle.tp_history.specs.Sound.{Sound};
 ghost use Rattle.tp_receive.specs.Delivery as delivery;
 ghost use Rattle.tp_receive.specs.Outcome.{HasOutcome, ReceivesAlone, ReceivesWith};
 ghost use Rattle.tp_document.specs.Applying.{HasMergeOutcome, kept_by, kept_by_none};
@@ -44,7 +44,7 @@ impl<S: Sequence> Document<S> {
     ///
     /// `PendingFull` where more than 1,024 changes would have to wait: nothing changes. `OutOfMemory` leaves the
     /// document between: it holds a beginning of the changes that it would have entered, each whole, and of what
-    /// waited nothing is lost. The change of the list that was being tried and those behind it have to come again.
+    /// waited nothing is lost. The change of the list that was being tried and those after it have to come again.
     ///
     /// An applied change costs its check and its operations. The pending ones are looked at again only where
     /// something entered.

@@ -1,14 +1,14 @@
 //! Cursors: positions of a text that stay with their element while the text changes.
 
 ghost use Rattle.std.specs.Prelude.{◌≡◌, Some, None, MatchResult};
-ghost use Rattle.tp_document.specs.Showing.{HasElementAt, HasPosition};
+ghost use Rattle.tp_snapshot.specs.Showing.{HasElementAt, HasPosition};
 
 use crate::document::Document;
 use crate::error::DocError;
 use tp_opid::OpId;
 use tp_rga::Sequence;
 
-/// A position of a text, as Automerge's cursor: the element that it stands at, whatever comes before it later.
+/// A position of a text, as Automerge's cursor: the element that it marks, whatever comes before it later.
 #[derive(Clone, Copy, Debug, PartialEq, Eq)]
 pub struct Cursor {
     /// The element.
@@ -29,7 +29,7 @@ impl<S: Sequence> Document<S> {
         }
     }
 
-    /// How many visible characters stand before the cursor's element, which may have been deleted since.
+    /// How many visible characters are before the cursor's element, which may have been deleted since.
     /// `UnknownElement` where the document hasn't the element.
     pub fn cursor_position(&self, cursor: &Cursor) -> Result<usize, DocError>
         ensures { MatchResult result

@@ -5,24 +5,26 @@ ghost use Rattle.tp_document.specs.Common.{slice_get, chars, In, IsTextOf, cause
 ghost use Rattle.tp_list.specs.Rising.{IsRising};
 ghost use Rattle.tp_opid.specs.declared.hash.Hash.{Hash as HashOf};
 ghost use Rattle.tp_opid.specs.Order.{hash_cmp};
-ghost use Rattle.tp_graph.specs.Named as named;
-ghost use Rattle.tp_graph.specs.Heads as head;
-ghost use Rattle.tp_graph.specs.Outside.{IsNext, IsNextBefore, IsOutside};
-ghost use Rattle.tp_graph.specs.Since.{marks_since, since, IsMissing};
-ghost use Rattle.tp_graph.specs.Answers.{Answers};
-ghost use Rattle.tp_graph.specs.GraphState.{most_waiting, HashesOnce};
-ghost use Rattle.tp_document.specs.DocState.{HasRoomFor, MakesRoom, AllChanges};
-ghost use Rattle.tp_document.specs.Showing.{HasLength, HasCharAt};
+ghost use Rattle.tp_history.specs.Named as named;
+ghost use Rattle.tp_history.specs.Heads as head;
+ghost use Rattle.tp_history.specs.Since.{since};
+ghost use Rattle.tp_graph.specs.Waiting.{IsMissing};
+ghost use Rattle.tp_graph.specs.Causes.{MatchesCause};
+ghost use Rattle.tp_graph.specs.GraphState.{most_waiting};
+ghost use Rattle.tp_history.specs.Named.{HashesOnce};
+ghost use Rattle.tp_layout.specs.Limits.{AllChanges};
+ghost use Rattle.tp_document.specs.DocState.{HasRoomFor, MakesRoom};
+ghost use Rattle.tp_snapshot.specs.Showing.{HasLength, HasCharAt};
 ghost use Rattle.tp_document.specs.declared.error.DocError.TheVariants.{OutOfMemory};
 
 use crate::error::DocError;
 use std::alloc::{AllocError, Global};
 use std::marker::Model;
 use tp_change::Change;
-use tp_graph::{Graph, GraphError, Outside, Rejected};
+use tp_edit::apply_change;
+use tp_graph::{Graph, GraphError};
 use tp_opid::{DocId, Hash};
 use tp_rga::Sequence;
-use tp_text::apply_change;
 
 /// One text with its history: the changes that are applied, those that wait, and the sequence of elements.
 ///
@@ -48,13 +50,14 @@ impl<S: Sequence> Drop for Document<S> {
 }
 
 impl<S: Sequence> Model for Document<S> {
-    ghost use Rattle.tp_document.specs.DocState.{DocState, Holds};
+    ghost use Rattle.tp_document.specs.DocState.{DocState};
+    ghost use Rattle.tp_snapshot.specs.Showing.{DocumentInvariant};
 
     ghost Value = { DocState };
 
     ghost view = { λ d. record { id = d.id; applied = d.graph.applied; waiting = d.graph.waiting; room = d.graph.room; space = S.room d.sequence } };
 
-    ghost invariant = { λ d. Holds d.graph.applied (S.placed d.sequence) (S.removals d.sequence) };
+    ghost invariant = { λ d. DocumentInvariant d.graph.applied (S.placed d.sequence) (S.removals d.sequence) };
 }
 
 // Drops the changes that wait.
@@ -99,7 +102,7 @@ impl<S: Sequence> Document<S> {
         ensures text { IfOk result (λ t. IsTextOf self.now.applied (chars (string_bytes t))) }
         ensures err { IsOkUnless result OutOfMemory }
     {
-        Ok(tp_text::text(self.alloc, &self.sequence)?)
+        Ok(tp_edit::text(self.alloc, &self.sequence)?)
     }
 
     /// How many characters (Unicode scalar values) the text has.
@@ -116,7 +119,17 @@ impl<S: Sequence> Document<S> {
         self.sequence.char_at(at)
     }
 
-    /// The applied changes, in the order in which they entered: dependencies stand before dependents.
+    /// The graph of its changes. It answers what is asked of the changes alone: which of them another lacks, one after
+    /// another ([`Graph::outside`](tp_graph::Graph::outside)), and whether a change can enter
+    /// ([`Graph::check`](tp_graph::Graph::check)).
+    pub fn graph(&self) -> &Graph
+        ensures applied { result.now.applied ≡ self.now.applied }
+        ensures waiting { result.now.waiting ≡ self.now.waiting }
+    {
+        &self.graph
+    }
+
+    /// The applied changes, in the order in which they entered: dependencies come before dependents.
     pub fn changes(&self) -> &[Change]
         ensures changes { result.now ≡ self.now.applied }
         ensures sound { Sound self.now.applied }
@@ -172,13 +185,6 @@ impl<S: Sequence> Document<S> {
         self.graph.pending()
     }
 
-    /// Whether a waiting change has the hash. One pass over them.
-    pub fn waits(&self, hash: &Hash) -> bool
-        ensures { result ≡ named.has self.now.waiting hash.now }
-    {
-        self.graph.waits(hash)
-    }
-
     /// How many changes wait.
     pub fn pending_len(&self) -> usize
         ensures { result ≡ length self.now.waiting }
@@ -200,65 +206,11 @@ impl<S: Sequence> Document<S> {
         }
     }
 
-    /// For each applied change, in applied order, whether it is outside the past of those of the hashes that are known,
-    /// or has one of the hashes `also`. The only refusal is `OutOfMemory`. One pass, and a byte for each applied change.
-    pub fn marks_since(&self, hashes: &[Hash], also: &[Hash]) -> Result<Vec<bool>, DocError>
-        ensures marks { IfOk result
-            (λ v. v.items ≡ marks_since self.now.applied hashes.now also.now) }
-        ensures err { IsOkUnless result OutOfMemory }
-    {
-        match self.graph.marks_since(hashes, also) {
-            Ok(marks) => Ok(marks),
-            Err(_) => Err(DocError::OutOfMemory),
-        }
-    }
-
-    /// The changes that [`marks_since`](Document::marks_since) marks, to be found one after another by
-    /// [`next_outside`](Document::next_outside). The only refusal is `OutOfMemory`. Where no change has one of the hashes
-    /// `also` that is no pass.
-    pub fn outside(&self, hashes: &[Hash], also: &[Hash]) -> Result<Outside, DocError>
-        ensures outside { IfOk result (IsOutside self.now.applied hashes.now also.now) }
-        ensures err { IsOkUnless result OutOfMemory }
-    {
-        match self.graph.outside(hashes, also) {
-            Ok(outside) => Ok(outside),
-            Err(_) => Err(DocError::OutOfMemory),
-        }
-    }
-
-    /// The first place, from a given one on, of a change that is outside; where there is none, a place behind all
-    /// changes. Its cost is that of [`Graph::next_outside`](tp_graph::Graph::next_outside).
-    pub fn next_outside(&self, outside: &Outside, from: usize) -> usize
-        requires { (H : List HashOf) × (K : List HashOf) × IsOutside self.now.applied H K outside.now }
-        ensures { (H K : List HashOf) → IsOutside self.now.applied H K outside.now
-            → IsNext (marks_since self.now.applied H K) from result }
-    {
-        self.graph.next_outside(outside, from)
-    }
-
-    /// The first place, from one on and before another, of a change that is outside; where there is none, a place that
-    /// isn't before that other. Its cost is that of
-    /// [`Graph::next_outside_before`](tp_graph::Graph::next_outside_before).
-    pub fn next_outside_before(&self, outside: &Outside, from: usize, to: usize) -> usize
-        requires { (H : List HashOf) × (K : List HashOf) × IsOutside self.now.applied H K outside.now }
-        ensures { (H K : List HashOf) → IsOutside self.now.applied H K outside.now
-            → IsNextBefore (marks_since self.now.applied H K) from to result }
-    {
-        self.graph.next_outside_before(outside, from, to)
-    }
-
     /// Drops the changes that wait. No memory.
     pub fn forget_pending(&mut self)
         ensures { self.new ≡ record self.old { waiting = [] } }
     {
         drop_waiting(&mut self.graph);
-    }
-
-    /// Whether the change can enter: `Ok`, or why not. It may be refused as `OutOfMemory` whatever the change.
-    pub fn check(&self, change: &Change) -> Result<(), GraphError>
-        ensures { Answers result (cause self.now.applied change.now) }
-    {
-        self.graph.check(change)
     }
 
     /// Makes every growth that the entry of a change takes that can enter, so that [`enter`](Document::enter) takes no
@@ -272,10 +224,10 @@ impl<S: Sequence> Document<S> {
         self.graph.reserve(change)
     }
 
-    /// Checks as [`check`](Document::check) does, and makes every growth as [`reserve`](Document::reserve) does. What a
+    /// Checks as [`Graph::check`](tp_graph::Graph::check) does, and makes every growth as [`reserve`](Document::reserve) does. What a
     /// caller sees stays as it was.
     pub fn ready(&mut self, change: &Change) -> Result<(), GraphError>
-        ensures answers { Answers result (cause self.old.applied change.now) }
+        ensures answers { MatchesCause result (cause self.old.applied change.now) }
         ensures stays { MakesRoom self.old self.new }
         ensures room { OnOk result (HasRoomFor self.new change.now) }
         ensures err { OnErr result (self.new.room ≡ self.old.room) }
@@ -289,7 +241,7 @@ impl<S: Sequence> Document<S> {
     pub(crate) fn ready_waiting(&mut self, i: usize) -> Result<(), GraphError>
         requires { i < length self.old.waiting }
         ensures answers { (c : ChangeParts) → slice_get self.old.waiting i ≡ Some c
-            → Answers result (cause self.old.applied c) }
+            → MatchesCause result (cause self.old.applied c) }
         ensures stays { MakesRoom self.old self.new }
         ensures room { (c : ChangeParts) → slice_get self.old.waiting i ≡ Some c
             → OnOk result (HasRoomFor self.new c) }

@@ -1,12 +1,12 @@
 //! Edits of a document.
 
-ghost use Rattle.std.specs.Prelude.{◌≡◌, ◌+◌, ◌≤◌, ◌<◌, ◌^◌, ◌++◌, ◌∷◌, [], false, true, length, Ok, Err, Some, None, encode_utf8_all, MatchResult, MatchOption, IfOk};
-ghost use Rattle.tp_document.specs.Common.{chars, most_changes, AllInRange, total_count, records_of, visible_ids, shown, has, hash_of, all_scalars, next_counter};
-ghost use Rattle.tp_change.specs.declared.parts.ChangeParts.{ChangeParts as Parts};
-ghost use Rattle.tp_graph.specs.Heads as head;
-ghost use Rattle.tp_document.specs.Editing.{asking, IsRefused, AsksNothing, Edited, EditsTo, DoesSplices};
+ghost use Rattle.std.specs.Prelude.{◌≡◌, ◌+◌, ◌≤◌, ◌<◌, ◌^◌, false, true, length, Ok, Err, Some, None, encode_utf8_all, MatchResult, MatchOption, IfOk, IsTrue};
+ghost use Rattle.tp_document.specs.Common.{chars, most_changes, AllInRange, total_count, records_of_edit, visible_ids, visible_of, has, hash_of, all_scalars, next_counter};
+ghost use Rattle.tp_layout.specs.declared.parts.ChangeParts.{ChangeParts as Parts};
+ghost use Rattle.tp_history.specs.Heads as head;
+ghost use Rattle.tp_document.specs.Editing.{asking, RefusesMaking, AsksNothing, IsAcceptedEdit, EditsTo, DoesSplices};
 ghost use Rattle.tp_document.specs.Making.{parts_made, IsAllowed, IsWithinLimits, IsWithinSize, IsShut};
-ghost use Rattle.tp_document.specs.DocState.{Holds};
+ghost use Rattle.tp_snapshot.specs.Showing.{DocumentInvariant};
 
 use crate::document::Document;
 use crate::error::DocError;
@@ -22,7 +22,7 @@ use tp_rga::Sequence;
 // How many bytes a text has.
 fn byte_count(text: &str) -> usize
     ensures count { result ≡ length (encode_utf8_all (chars text.now)) }
-    ensures scalars { all_scalars (chars text.now) ≡ true }
+    ensures scalars { IsTrue (all_scalars (chars text.now)) }
 {
     text.len()
 }
@@ -40,7 +40,7 @@ fn parts_of<S: Sequence>(
     message: &str,
 ) -> Result<ChangeParts, AllocError>
     requires in_range { AllInRange
-        (length (shown (S.removals sequence.now) (S.placed sequence.now))) splices.now }
+        (length (visible_of (S.removals sequence.now) (S.placed sequence.now))) splices.now }
     requires counters { start + total_count splices.now < 2 ^ 64 }
     ensures { IfOk result (λ parts. parts
         ≡ parts_made (asking actor splices.now time (chars message.now)) seq start deps.now
@@ -67,7 +67,7 @@ fn validate_edit<S: Sequence>(
     splices: &[Splice],
     message: &str,
 ) -> Result<bool, DocError>
-    requires { Holds graph.now.applied (S.placed sequence.now) (S.removals sequence.now) }
+    requires { DocumentInvariant graph.now.applied (S.placed sequence.now) (S.removals sequence.now) }
     ensures { IsAllowed graph.now.applied splices.now (chars message.now) result }
 {
     let count = match validate_splices(splices, sequence.len()) {
@@ -100,12 +100,12 @@ fn change_of<S: Sequence>(
     time: u64,
     message: &str,
 ) -> Result<Change, DocError>
-    requires holds { Holds graph.now.applied (S.placed sequence.now) (S.removals sequence.now) }
+    requires holds { DocumentInvariant graph.now.applied (S.placed sequence.now) (S.removals sequence.now) }
     requires within { IsWithinLimits graph.now.applied
         (asking actor splices.now time (chars message.now)) }
     ensures { MatchResult result
         (λ c. IsWithinSize graph.now.applied (asking actor splices.now time (chars message.now)) c)
-        (λ e. IsRefused graph.now.applied (asking actor splices.now time (chars message.now)) e) }
+        (λ e. RefusesMaking graph.now.applied (asking actor splices.now time (chars message.now)) e) }
 {
     let _actor = array_len(actor.0);
     let seq = next_seq(graph, &actor);
@@ -156,8 +156,8 @@ impl<S: Sequence> Document<S> {
         ensures { MatchResult result
             (λ made. MatchOption made
             (AsksNothing self.now.applied (asking actor splices.now time (chars message.now)))
-            (λ c. Edited self.now.applied (asking actor splices.now time (chars message.now)) c))
-            (λ e. IsRefused self.now.applied
+            (λ c. IsAcceptedEdit self.now.applied (asking actor splices.now time (chars message.now)) c))
+            (λ e. RefusesMaking self.now.applied
             (asking actor splices.now time (chars message.now)) e) }
     {
         match validate_edit(&self.graph, &self.sequence, splices, message) {

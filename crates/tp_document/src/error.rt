@@ -1,12 +1,13 @@
 //! Why a call on a document was refused.
 
 ghost use Rattle.std.specs.Prelude.{◌≡◌, Some};
-ghost use Rattle.tp_document.specs.DocError.{code_of, receiving};
+ghost use Rattle.tp_document.specs.DocError.{code_of, receiving, refusal_of_snapshot};
 ghost use Rattle.tp_document.specs.declared.error.DocError.TheVariants.{OutOfMemory};
 
 use std::alloc::{AllocError, AllocFailed};
 use thiserror::Error;
 use tp_receive::ReceiveError;
+use tp_snapshot::SnapshotError;
 
 /// Why a call was refused. A refused call leaves the document as it was, but for `OutOfMemory` and `NotKept` of the
 /// calls that receive changes: see [`Document::apply`](crate::Document::apply).
@@ -100,6 +101,17 @@ impl From<ReceiveError> for DocError {
             ReceiveError::PendingFull => DocError::PendingFull,
             ReceiveError::NotKept => DocError::NotKept,
             ReceiveError::OutOfMemory => DocError::OutOfMemory,
+        }
+    }
+}
+
+impl From<SnapshotError> for DocError {
+    ghost from_gives = { λ e d. d ≡ refusal_of_snapshot e };
+
+    fn from(error: SnapshotError) -> DocError {
+        match error {
+            SnapshotError::UnknownHead => DocError::UnknownHead,
+            SnapshotError::OutOfMemory => DocError::OutOfMemory,
         }
     }
 }

@@ -2,9 +2,9 @@
 
 ghost use Rattle.std.specs.Prelude.{◌≡◌, ◌↔◌, ◌⊎◌, ◌<◌, ◌≤◌, ℕ, [], ◌∷◌, ◌++◌, None, false, length, IfOk, IfErr, IfSome, IsOkUnless, OnOk};
 ghost use Rattle.tp_document.specs.Common.{cause, most_changes, Sound, In, has_all};
-ghost use Rattle.tp_graph.specs.Past as pasts;
+ghost use Rattle.tp_history.specs.Past as pasts;
 ghost use Rattle.tp_document.specs.DocState.{HasJust};
-ghost use Rattle.tp_document.specs.History.{changes_at};
+ghost use Rattle.tp_document.specs.Forking.{changes_at_places};
 ghost use Rattle.tp_document.specs.declared.error.DocError.TheVariants.{OutOfMemory};
 
 use crate::document::Document;
@@ -61,9 +61,9 @@ fn document_at<S: Sequence>(
     places: &[u32],
 ) -> Result<Document<S>, DocError>
     requires within { (i : ℕ) → In i places.now → i < length changes.now }
-    requires sound { Sound (changes_at changes.now places.now) }
-    requires few { length (changes_at changes.now places.now) ≤ most_changes }
-    ensures ok { IfOk result (λ d. HasJust id (changes_at changes.now places.now) d) }
+    requires sound { Sound (changes_at_places changes.now places.now) }
+    requires few { length (changes_at_places changes.now places.now) ≤ most_changes }
+    ensures ok { IfOk result (λ d. HasJust id (changes_at_places changes.now places.now) d) }
     ensures err { IsOkUnless result OutOfMemory }
 {
     let mut document = Document::new(alloc, id);
@@ -74,15 +74,15 @@ fn document_at<S: Sequence>(
 }
 
 impl<S: Sequence> Document<S> {
-    // A copy of the document as it stands, but for what waits; `None` where its sequence has to be made anew.
-    fn copied(&self) -> Result<Option<Document<S>>, AllocError>
+    // A copy of the document as it is, but for what waits; `None` where its sequence has to be made anew.
+    fn try_copy(&self) -> Result<Option<Document<S>>, AllocError>
         ensures { IfOk result (λ copy. IfSome copy (HasJust self.now.id self.now.applied)) }
     {
-        let sequence = match self.sequence.copied(self.alloc)? {
+        let sequence = match self.sequence.try_copy(self.alloc)? {
             Some(sequence) => sequence,
             None => return Ok(None),
         };
-        match self.graph.copied() {
+        match self.graph.copy() {
             Ok(graph) => Ok(Some(Document {
                 alloc: self.alloc,
                 id: self.id,
@@ -97,7 +97,7 @@ impl<S: Sequence> Document<S> {
     }
 
     /// A document with the same identifier and copies of the applied changes; nothing waits in it. The only refusal
-    /// is `OutOfMemory`. The changes are copied one by one, and what is kept beside them as it stands. Where the sequence
+    /// is `OutOfMemory`. The changes are copied one by one, and what is kept beside them as it is. Where the sequence
     /// can't be copied so, each change is entered anew without judging it, which joins the pasts of its dependencies where
     /// they aren't all heads.
     ///
@@ -110,7 +110,7 @@ impl<S: Sequence> Document<S> {
         ensures ok { IfOk result (λ d. HasJust self.now.id self.now.applied d) }
         ensures err { IsOkUnless result OutOfMemory }
     {
-        match self.copied() {
+        match self.try_copy() {
             Ok(Some(copy)) => Ok(copy),
             Ok(None) => document_of(self.alloc, self.id, self.changes()),
             Err(_) => Err(DocError::OutOfMemory),

@@ -1,9 +1,9 @@
 //! Laws of documents: public functions whose contract is the law and whose body is empty.
 
-ghost use Rattle.std.specs.Prelude.{◌≡◌, ◌↔◌, ◌++◌, ℕ, true, List};
+ghost use Rattle.std.specs.Prelude.{◌≡◌, ◌↔◌, ◌++◌, ℕ, List, IsTrue};
 ghost use Rattle.tp_document.specs.Common.{ChangeParts, hash_of, In, Hash, Sound, IsTextOf, has_all, past, SameMembers};
-ghost use Rattle.tp_graph.specs.Heads.{heads};
-ghost use Rattle.tp_document.specs.Editing.{Asked, Edited};
+ghost use Rattle.tp_history.specs.Heads.{heads};
+ghost use Rattle.tp_document.specs.Editing.{EditRequest, IsAcceptedEdit};
 
 /// Sound changes have one text.
 pub fn one_text()
@@ -13,8 +13,8 @@ pub fn one_text()
 
 /// What an edit asks determines its change.
 pub fn edit_is_determined()
-    ensures { (C : List ChangeParts) (asked : Asked) (c d : ChangeParts) → Sound C
-        → Edited C asked c → Edited C asked d → c ≡ d }
+    ensures { (C : List ChangeParts) (asked : EditRequest) (c d : ChangeParts) → Sound C
+        → IsAcceptedEdit C asked c → IsAcceptedEdit C asked d → c ≡ d }
 {}
 
 /// The text depends on the changes as a set.
@@ -44,7 +44,7 @@ pub fn each_past_has_a_text()
 
 /// The text at heads stays as it is while other changes enter.
 pub fn later_changes_leave_the_text_at_heads()
-    ensures { (C D : List ChangeParts) (H : List Hash) (t : List ℕ) → has_all C H ≡ true
+    ensures { (C D : List ChangeParts) (H : List Hash) (t : List ℕ) → IsTrue (has_all C H)
         → Sound (C ++ D)
         → IsTextOf (past (C ++ D) H) t ↔ IsTextOf (past C H) t }
 {}

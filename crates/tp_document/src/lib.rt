@@ -6,13 +6,9 @@
 #![tactic(auto)]
 
 mod applying;
-mod author;
 mod cursor;
-mod difference_builder;
-mod differences;
 mod document;
 mod editing;
-mod effects;
 mod error;
 mod forking;
 mod history;
@@ -20,17 +16,13 @@ mod laws;
 mod making;
 mod merging;
 mod replica;
-mod targets;
-mod views;
-mod window;
 
 pub use cursor::Cursor;
-pub use differences::Difference;
 pub use document::Document;
-pub use effects::Effect;
 pub use error::DocError;
 pub use laws::{
     each_past_has_a_text, edit_is_determined, equal_heads_equal_texts,
     later_changes_leave_the_text_at_heads, one_text, text_at_all_heads, text_of_a_set,
 };
 pub use tp_receive::{Applied, KeepError, Keeper, NoKeeper};
+pub use tp_snapshot::{Difference, Effect};

@@ -1,7 +1,7 @@
 //! From an edit to its change.
 
 ghost use Rattle.std.specs.Prelude.{◌≡◌, ◌+◌, ◌<◌, ◌≤◌, ◌^◌, length, encode_utf8_all, IfOk, MatchResult};
-ghost use Rattle.tp_document.specs.Common.{chars, MAX_BYTES, IsChange, spelling, most_changes, shown, AllInRange, total_count, records_of, visible_ids, count_by};
+ghost use Rattle.tp_document.specs.Common.{chars, MAX_BYTES, IsChange, spelling, most_changes, visible_of, AllInRange, total_count, records_of_edit, visible_ids, count_by};
 ghost use Rattle.tp_document.specs.Making.{IsValidated, IsLong};
 
 use crate::error::DocError;

@@ -1,8 +1,8 @@
 //! Merging documents.
 
-ghost use Rattle.std.specs.Prelude.{◌≡◌, ◌++◌, ◌∷◌, [], true, IsTrue, IfOk, IsOkUnless};
+ghost use Rattle.std.specs.Prelude.{◌≡◌, ◌++◌, ◌∷◌, [], IsTrue, IfOk, IsOkUnless};
 ghost use Rattle.std.specs.Option.{is_some};
-ghost use Rattle.tp_graph.specs.Named.{has};
+ghost use Rattle.tp_history.specs.Named.{has};
 ghost use Rattle.tp_document.specs.Merging as merging;
 ghost use Rattle.tp_document.specs.declared.error.DocError.TheVariants.{OutOfMemory};
 
@@ -14,7 +14,7 @@ use tp_rga::Sequence;
 
 // Whether the change at the place has the hash.
 fn is_at(changes: &[Change], place: usize, hash: &Hash) -> bool
-    ensures { IsTrue result → has changes.now hash.now ≡ true }
+    ensures { IsTrue result → IsTrue (has changes.now hash.now) }
 {
     if place < changes.len() {
         changes[place].hash().is(hash)
@@ -24,7 +24,7 @@ fn is_at(changes: &[Change], place: usize, hash: &Hash) -> bool
 }
 
 // The place of a change with the hash, if the document has one. One place is looked at before any look-up: where the
-// changes of two documents stand in one order for a while, each is found behind the one before.
+// changes of two documents are in one order for a while, each is found after the one before.
 fn place_of<S: Sequence>(document: &Document<S>, first: usize, hash: &Hash) -> Option<usize>
     ensures { is_some result ≡ has document.now.applied hash.now }
 {
@@ -34,7 +34,7 @@ fn place_of<S: Sequence>(document: &Document<S>, first: usize, hash: &Hash) -> O
     document.graph.place(hash)
 }
 
-// Puts a copy of the change behind the changes, where the document hasn't its hash; and else notes the place behind it.
+// Puts a copy of the change after the changes, where the document hasn't its hash; and else notes the place after it.
 fn note_absent<S: Sequence>(
     document: &Document<S>,
     changes: &mut Vec<Change>,

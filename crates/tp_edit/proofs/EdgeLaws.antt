@@ -8,7 +8,7 @@ use Rattle.tp_change.specs.OpIds.{ids_from}
 use Rattle.tp_change.proofs.OpsLaws.{length-ids_from}
 use Rattle.tp_edit.specs.declared.landing.Edge.{Edge}
 use Rattle.tp_edit.specs.declared.landing.Landing.{Landing}
-use Rattle.tp_edit.specs.Splices.{spliced}
+use Rattle.tp_edit.specs.Splices.{splice_at}
 use Rattle.tp_edit.specs.Landings.{IsEdge, ids_through}
 use Rattle.tp_edit.proofs.Landed.{ids_through-push, length-ids_landed}
 
@@ -38,14 +38,14 @@ was_after a V ls e i edge le within =
 -- ---- one splice more
 
 -- what is before both
-head_left : {X : Type 0} (W V N : List X) (at del h m : ℕ) → take h W ≡ take h V → m ≤ h → m ≤ at → at ≤ length W → take m (spliced W at del N) ≡ take m V
+head_left : {X : Type 0} (W V N : List X) (at del h m : ℕ) → take h W ≡ take h V → m ≤ h → m ≤ at → at ≤ length W → take m (splice_at W at del N) ≡ take m V
 head_left W V N at del h m same below short fit =
     let prefix = length-take-le at W fit in
     take-append-le m (take at W) (N ++ drop (at + del) W) (omega (arith, prefix))
     ∙ take-take m at W short ∙ sym (take-take m h W below) ∙ ap (take m) same ∙ take-take m h V below
 
 -- what is after the splice
-after_splice : {X : Type 0} (W N : List X) (at del n : ℕ) → at ≤ length W → length N ≡ n → drop (at + n) (spliced W at del N) ≡ drop (at + del) W
+after_splice : {X : Type 0} (W N : List X) (at del n : ℕ) → at ≤ length W → length N ≡ n → drop (at + n) (splice_at W at del N) ≡ drop (at + del) W
 after_splice W N at del n fit size =
     let prefix = length-take-le at W fit in
     let front = length-append (take at W) N in
@@ -53,19 +53,19 @@ after_splice W N at del n fit size =
     ∙ drop_at (take at W ++ N) (drop (at + del) W) (at + n) (omega (arith, prefix, front, size))
 
 tail_moved : {X : Type 0} (W V N : List X) (at del n end base : ℕ) → at ≤ length W → length N ≡ n → drop end W ≡ drop base V → end ≤ at + del
-    → drop (at + n) (spliced W at del N) ≡ drop (base + ((at + del) - end)) V
+    → drop (at + n) (splice_at W at del N) ≡ drop (base + ((at + del) - end)) V
 tail_moved W V N at del n end base fit size same le =
     let k = (at + del) - end in
     let place : at + del ≡ end + k = omega arith in
     after_splice W N at del n fit size ∙ ap (λ m. drop m W) place ∙ sym (drop-drop k end W) ∙ ap (drop k) same ∙ drop-drop k base V
 
 tail_left : {X : Type 0} (W V N : List X) (at del n end base : ℕ) → at ≤ length W → length N ≡ n → drop end W ≡ drop base V → at + del < end
-    → drop ((end - del) + n) (spliced W at del N) ≡ drop base V
+    → drop ((end - del) + n) (splice_at W at del N) ≡ drop base V
 tail_left W V N at del n end base fit size same lt =
     let k = end - (at + del) in
     let place : (end - del) + n ≡ (at + n) + k = omega arith in
     let back : (at + del) + k ≡ end = omega arith in
-    ap (λ m. drop m (spliced W at del N)) place ∙ sym (drop-drop k (at + n) (spliced W at del N)) ∙ ap (drop k) (after_splice W N at del n fit size)
+    ap (λ m. drop m (splice_at W at del N)) place ∙ sym (drop-drop k (at + n) (splice_at W at del N)) ∙ ap (drop k) (after_splice W N at del n fit size)
     ∙ drop-drop k (at + del) W ∙ ap (λ m. drop m W) back ∙ same
 
 -- ---- the edge

@@ -15,26 +15,26 @@ use Rattle.tp_opid.proofs.Orders.{Below-trans, Below-counter}
 use Rattle.tp_opid.proofs.Trees.{IsThere-grow, IsThere-member}
 use Rattle.tp_change.specs.declared.op.Op.{Op}
 use Rattle.tp_change.specs.declared.op.Op.TheVariants as op_of
-use Rattle.tp_change.specs.declared.record.Record.{Record}
-use Rattle.tp_change.specs.declared.parts.ChangeParts.{ChangeParts}
+use Rattle.tp_layout.specs.declared.record.Record.{Record}
+use Rattle.tp_layout.specs.declared.parts.ChangeParts.{ChangeParts}
 use Rattle.tp_change.specs.Operations.{id_of, run, ops_from, ops_of}
-use Rattle.tp_change.specs.Operations as operations
+use Rattle.tp_layout.specs.Counts as operations
 use Rattle.tp_change.specs.Elements.{element, inserts_in, deletes_in, is_inserted, is_reference, refers}
 use Rattle.tp_change.specs.OpIds.{ids_from}
 use Rattle.tp_change.proofs.ElementLaws.{inserts_in-append, deletes_in-append, ops_from-append, is_inserted-member, is_inserted-more}
 use Rattle.tp_change.proofs.Numbered.{Numbered-ops_of, Numbered}
 use Rattle.tp_rga.specs.Order.{EndsAt, IsInOrder}
-use Rattle.tp_rga.specs.Shown.{is_removed, shown}
-use Rattle.tp_rga.proofs.OneOrder.{one_order, stands_once}
-use Rattle.tp_text.specs.Text.{chars_of}
-use Rattle.tp_text.proofs.Numbered.{CanApply-refers, IsFresh-under}
+use Rattle.tp_rga.specs.Shown.{is_removed, visible_of}
+use Rattle.tp_rga.proofs.OneOrder.{one_order, present_once}
+use Rattle.tp_edit.specs.Text.{chars_of}
+use Rattle.tp_edit.proofs.Numbered.{CanApply-refers, IsFresh-under}
 use Rattle.tp_edit.specs.declared.splice.Splice.{Splice}
-use Rattle.tp_edit.specs.Splices.{inserted, count_of, total_count, spliced, IsInRange, AllInRange, all_spliced}
-use Rattle.tp_edit.specs.EditRecords.{ids_of, after_last, deletes_of, removals_of, runs_of, records_of_splice, ids_after, records_of, ids_after_all}
-use Rattle.tp_edit.specs.EditLaw.{IsReady, ops_of_edit, EditLaw, AppliedLaw}
-use Rattle.tp_edit.proofs.Landed.{length-spliced}
+use Rattle.tp_edit.specs.Splices.{inserted_chars, count_of_splice, total_count, splice_at, IsInRange, AllInRange, all_spliced}
+use Rattle.tp_edit.specs.EditRecords.{ids_of, after_last, deletes_of, removals_of, runs_of, records_of_splice, ids_after, records_of_edit, ids_after_all}
+use Rattle.tp_edit.specs.EditLaw.{IsEditable, ops_of_edit, EditLaw, AppliedLaw}
+use Rattle.tp_edit.proofs.Landed.{length-splice_at}
 use Rattle.tp_edit.proofs.Removals.{ops_from-removals, count-removals}
-use Rattle.tp_edit.proofs.ShownEdits.{shown-append, shown_kept, shown_cut, split_shown, named_from-target, AreApart-filter}
+use Rattle.tp_edit.proofs.ShownEdits.{visible_of-append, shown_kept, shown_cut, split_shown, named_from-target, IdsApart-filter}
 use Rattle.tp_edit.proofs.RunPlaces.{elements_of_run, ids_of-run, chars_of-run, deletes_in-run, run-counter, run_in_order}
 
 -- ---- operations one list after another
@@ -117,8 +117,8 @@ place_is_there S F (After r) sub (A, f, is, names) =
 -- The operations lead from a text that is ready to one that is ready for the counter m, whose visible elements are W.
 pub record Transforms (T L : List Insert) (R : List (OpId × OpId)) (a : Actor) (n : ℕ) (ops : List Op) (m : ℕ) (M W : List Insert) : Type 0 where
   pub refers : refers T ops ≡ true
-  pub ready : IsReady (T ++ inserts_in ops) M (R ++ deletes_in ops) a m
-  pub shows : shown (R ++ deletes_in ops) M ≡ W
+  pub ready : IsEditable (T ++ inserts_in ops) M (R ++ deletes_in ops) a m
+  pub shows : visible_of (R ++ deletes_in ops) M ≡ W
 
 pub Transforms-join : (T L : List Insert) (R : List (OpId × OpId)) (a : Actor) (n : ℕ) (xs : List Op) (m : ℕ) (M W : List Insert) (ys : List Op) (k : ℕ) (N X : List Insert) → Transforms T L R a n xs m M W → Transforms (T ++ inserts_in xs) M (R ++ deletes_in xs) a m ys k N X → Transforms T L R a n (xs ++ ys) k N X
 Transforms-join T L R a n xs m M W ys k N X p q =
@@ -128,14 +128,14 @@ Transforms-join T L R a n xs m M W ys k N X p q =
     append_assoc R (deletes_in xs) (deletes_in ys) ∙ ap (λ l. R ++ l) (sym (deletes_in-append xs ys)) in
     record {
       refers = refers-join xs ys T p.refers q.refers;
-      ready = subst (λ S. IsReady S N (R ++ deletes_in (xs ++ ys)) a k) members (subst (λ D. IsReady ((T ++ inserts_in xs) ++ inserts_in ys) N D a k) named q.ready);
-      shows = ap (λ D. shown D N) (sym named) ∙ q.shows;
+      ready = subst (λ S. IsEditable S N (R ++ deletes_in (xs ++ ys)) a k) members (subst (λ D. IsEditable ((T ++ inserts_in xs) ++ inserts_in ys) N D a k) named q.ready);
+      shows = ap (λ D. visible_of D N) (sym named) ∙ q.shows;
     }
 
 -- ---- one splice
 
-shown-there : (T L : List Insert) (R : List (OpId × OpId)) → IsInOrder T L → (e : Insert) → In e (shown R L) → IsThere T e.id
-shown-there T L R order e i =
+visible_of-there : (T L : List Insert) (R : List (OpId × OpId)) → IsInOrder T L → (e : Insert) → In e (visible_of R L) → IsThere T e.id
+visible_of-there T L R order e i =
     IsThere-member T e (order.same.back e (In-filter (λ (x : Insert). not (is_removed R x.id)) L e i).0)
 
 ids-there : (T W : List Insert) → ((e : Insert) → In e W → IsThere T e.id) → (x : OpId) → In x (ids_of W) → IsThere T x
@@ -153,18 +153,18 @@ none_named T (r ∷ R) a n k above named le =
     ∙ none_named T R a n k above (λ q i. named q (inr i)) le
 
 -- a delete of each element between A and B leaves A and B
-deletes_leave : (T L : List Insert) (R : List (OpId × OpId)) (a : Actor) (n : ℕ) (A X B : List Insert) → IsReady T L R a n → shown R L ≡ A ++ (X ++ B) → Transforms T L R a n (ops_from a n (deletes_of (ids_of X))) (n + length X) L (A ++ B)
+deletes_leave : (T L : List Insert) (R : List (OpId × OpId)) (a : Actor) (n : ℕ) (A X B : List Insert) → IsEditable T L R a n → visible_of R L ≡ A ++ (X ++ B) → Transforms T L R a n (ops_from a n (deletes_of (ids_of X))) (n + length X) L (A ++ B)
 deletes_leave T L R a n A X B ready shows =
     let xs = ids_of X in
     let ops = ops_from a n (deletes_of xs) in
     let there : (x : OpId) → In x xs → IsThere T x =
-    ids-there T X (λ e i. shown-there T L R ready.order e (subst (In e) (sym shows) (In-right e A (X ++ B) (In-left e X B i)))) in
+    ids-there T X (λ e i. visible_of-there T L R ready.order e (subst (In e) (sym shows) (In-right e A (X ++ B) (In-left e X B i)))) in
     let none : inserts_in ops ≡ [] = inserts_in-deletes a n xs in
     let members : T ≡ T ++ inserts_in ops = sym (ap (λ l. T ++ l) none ∙ append-nil T) in
-    let apart = AreApart-filter (λ (x : Insert). not (is_removed R x.id)) L (stands_once T L ready.tree ready.order) in
+    let apart = IdsApart-filter (λ (x : Insert). not (is_removed R x.id)) L (present_once T L ready.tree ready.order) in
     record {
       refers = refers-deletes a n xs T there;
-      ready = subst (λ S. IsReady S L (R ++ deletes_in ops) a (n + length X)) members (record {
+      ready = subst (λ S. IsEditable S L (R ++ deletes_in ops) a (n + length X)) members (record {
         tree = ready.tree;
         order = ready.order;
         above = λ e i. above_later T a n (length X) ready.above e i;
@@ -174,8 +174,8 @@ deletes_leave T L R a n A X B ready shows =
         ];
       });
       shows =
-          shown-append R (deletes_in ops) L ∙ ap (shown (deletes_in ops)) shows
-          ∙ shown_cut a n A X B (subst Rattle.tp_opid.specs.Tree.AreApart shows apart);
+          visible_of-append R (deletes_in ops) L ∙ ap (visible_of (deletes_in ops)) shows
+          ∙ shown_cut a n A X B (subst Rattle.tp_opid.specs.Tree.IdsApart shows apart);
     }
   where
     above_later : (T : List Insert) (a : Actor) (n k : ℕ) → IsAboveAll T (id_of a n) → IsAboveAll T (id_of a (n + k))
@@ -183,8 +183,8 @@ deletes_leave T L R a n A X B ready shows =
     above_later T a n (suc k) above =
         λ e i. Below-trans e.id (id_of a n) (id_of a (n + suc k)) (above e i) (Below-counter (id_of a n) (id_of a (n + suc k)) (omega arith))
 
--- a run after the last of A comes directly behind A
-run_leaves : (T L : List Insert) (R : List (OpId × OpId)) (a : Actor) (n : ℕ) (A B : List Insert) (text : List ℕ) → IsReady T L R a n → shown R L ≡ A ++ B → (M : List Insert) × Transforms T L R a n (run a n (after_last Start (ids_of A)) text) (n + length text) M (A ++ (elements_of_run a n (after_last Start (ids_of A)) text ++ B))
+-- a run after the last of A comes directly after A
+run_leaves : (T L : List Insert) (R : List (OpId × OpId)) (a : Actor) (n : ℕ) (A B : List Insert) (text : List ℕ) → IsEditable T L R a n → visible_of R L ≡ A ++ B → (M : List Insert) × Transforms T L R a n (run a n (after_last Start (ids_of A)) text) (n + length text) M (A ++ (elements_of_run a n (after_last Start (ids_of A)) text ++ B))
 run_leaves T L R a n A B text ready shows =
     let after = after_last Start (ids_of A) in
     let es = elements_of_run a n after text in
@@ -194,7 +194,7 @@ run_leaves T L R a n A B text ready shows =
     let order : IsInOrder T (F ++ G) = subst (IsInOrder T) parts.2 ready.order in
     let put = run_in_order text T F G a n after ready.tree order parts.5 ready.above in
     let keep = λ (x : Insert). not (is_removed R x.id) in
-    let new : shown R es ≡ es = shown_kept R es (λ e i.
+    let new : visible_of R es ≡ es = shown_kept R es (λ e i.
     let c = run-counter a n after text e i in
     ap (is_removed R) c.2 ∙ none_named T R a n c.0 ready.above ready.targets c.1) in
     let same : R ++ deletes_in (run a n after text) ≡ R = ap (λ l. R ++ l) (deletes_in-run a n after text) ∙ append-nil R in (
@@ -208,11 +208,11 @@ run_leaves T L R a n A B text ready shows =
           targets = λ r i. IsThere-grow T (T ++ es) (λ e j. In-left e T es j) r.0 (ready.targets r (subst (In r) same i));
         };
         shows =
-            ap (λ D. shown D (F ++ (es ++ G))) same
+            ap (λ D. visible_of D (F ++ (es ++ G))) same
             ∙ Rattle.std.proofs.lemmas.List.Elements.filter-append keep F (es ++ G)
-            ∙ ap (λ l. shown R F ++ l) (Rattle.std.proofs.lemmas.List.Elements.filter-append keep es G)
-            ∙ ap (λ l. l ++ (shown R es ++ shown R G)) parts.3
-            ∙ ap (λ l. A ++ (l ++ shown R G)) new
+            ∙ ap (λ l. visible_of R F ++ l) (Rattle.std.proofs.lemmas.List.Elements.filter-append keep es G)
+            ∙ ap (λ l. l ++ (visible_of R es ++ visible_of R G)) parts.3
+            ∙ ap (λ l. A ++ (l ++ visible_of R G)) new
             ∙ ap (λ l. A ++ (es ++ l)) parts.4;
       },
     )
@@ -235,22 +235,22 @@ ops_from-removed a n xs rs =
     ∙ sym (ops_from-append a n (deletes_of xs) rs)
 
 -- how many records one splice has operations
-pub count-splice : (V : List OpId) (s : Splice) → IsInRange (length V) s → operations.count_of (records_of_splice V s) ≡ count_of s
+pub count-splice : (V : List OpId) (s : Splice) → IsInRange (length V) s → operations.count_of (records_of_splice V s) ≡ count_of_splice s
 count-splice V s range =
     let xs = take s.del (drop s.at V) in
     let after = after_last Start (take s.at V) in
-    let whole = count-append (removals_of xs) (runs_of after (inserted s)) in
+    let whole = count-append (removals_of xs) (runs_of after (inserted_chars s)) in
     let size = length-take-le s.del (drop s.at V) (let rest = length-drop s.at V in omega (arith, rest)) in
-    omega (arith, whole, count-removals xs, count-runs after (inserted s), size)
+    omega (arith, whole, count-removals xs, count-runs after (inserted_chars s), size)
 
 -- one splice
-splice_leaves : (T L : List Insert) (R : List (OpId × OpId)) (a : Actor) (n : ℕ) (s : Splice) → IsReady T L R a n → IsInRange (length (shown R L)) s → Splices T L R a n (ops_from a n (records_of_splice (ids_of (shown R L)) s)) (n + count_of s) (ids_after a n (ids_of (shown R L)) s) (spliced (chars_of (shown R L)) s.at s.del (inserted s))
+splice_leaves : (T L : List Insert) (R : List (OpId × OpId)) (a : Actor) (n : ℕ) (s : Splice) → IsEditable T L R a n → IsInRange (length (visible_of R L)) s → Splices T L R a n (ops_from a n (records_of_splice (ids_of (visible_of R L)) s)) (n + count_of_splice s) (ids_after a n (ids_of (visible_of R L)) s) (splice_at (chars_of (visible_of R L)) s.at s.del (inserted_chars s))
 splice_leaves T L R a n s ready range =
     let id = λ (e : Insert). e.id in
     let ch = λ (e : Insert). e.ch in
-    let W = shown R L in
+    let W = visible_of R L in
     let V = ids_of W in
-    let text = inserted s in
+    let text = inserted_chars s in
     let A = take s.at W in
     let X = take s.del (drop s.at W) in
     let B = drop (s.at + s.del) W in
@@ -274,7 +274,7 @@ splice_leaves T L R a n s ready range =
     ∙ ap (λ xs. ops_from a n (deletes_of xs ++ runs_of after text)) (sym middle)
     ∙ ap (λ xs. ops_from a n (deletes_of (take s.del (drop s.at V)) ++ runs_of (after_last Start xs) text)) (sym prefix)
     ∙ sym (ops_from-removed a n (take s.del (drop s.at V)) (runs_of (after_last Start (take s.at V)) text)) in
-    let end : (n + length X) + length text ≡ n + count_of s = omega (arith, size) in
+    let end : (n + length X) + length text ≡ n + count_of_splice s = omega (arith, size) in
     record {
       placed = q.0;
       visible = A ++ (es ++ B);
@@ -296,66 +296,66 @@ splice_leaves T L R a n s ready range =
 -- the next splices, after what the first ones leave
 then_leave : (T L : List Insert) (R : List (OpId × OpId)) (a : Actor) (n : ℕ) (ops : List Op) (m : ℕ) (V : List OpId) (t : List ℕ) (first : Splices T L R a n ops m V t) (ss : List Splice) (k : ℕ)
     → Splices (T ++ inserts_in ops) first.placed (R ++ deletes_in ops) a m (ops_of_edit a m first.placed (R ++ deletes_in ops) ss) k
-    (ids_after_all a m (ids_of (shown (R ++ deletes_in ops) first.placed)) ss) (all_spliced (chars_of (shown (R ++ deletes_in ops) first.placed)) ss)
-    → Splices T L R a n (ops ++ ops_from a m (records_of a m V ss)) k (ids_after_all a m V ss) (all_spliced t ss)
+    (ids_after_all a m (ids_of (visible_of (R ++ deletes_in ops) first.placed)) ss) (all_spliced (chars_of (visible_of (R ++ deletes_in ops) first.placed)) ss)
+    → Splices T L R a n (ops ++ ops_from a m (records_of_edit a m V ss)) k (ids_after_all a m V ss) (all_spliced t ss)
 then_leave T L R a n ops m V t first ss k rest =
-    let there : ids_of (shown (R ++ deletes_in ops) first.placed) ≡ V = ap ids_of first.leaves.shows ∙ first.ids in
-    let chars : chars_of (shown (R ++ deletes_in ops) first.placed) ≡ t = ap chars_of first.leaves.shows ∙ first.text in
-    let more : Splices (T ++ inserts_in ops) first.placed (R ++ deletes_in ops) a m (ops_from a m (records_of a m V ss)) k (ids_after_all a m V ss) (all_spliced t ss) =
-    subst (λ x. Splices (T ++ inserts_in ops) first.placed (R ++ deletes_in ops) a m (ops_from a m (records_of a m V ss)) k (ids_after_all a m V ss) (all_spliced x ss)) chars
-    (subst (λ U. Splices (T ++ inserts_in ops) first.placed (R ++ deletes_in ops) a m (ops_from a m (records_of a m U ss)) k (ids_after_all a m U ss) (all_spliced (chars_of (shown (R ++ deletes_in ops) first.placed)) ss)) there rest) in
+    let there : ids_of (visible_of (R ++ deletes_in ops) first.placed) ≡ V = ap ids_of first.leaves.shows ∙ first.ids in
+    let chars : chars_of (visible_of (R ++ deletes_in ops) first.placed) ≡ t = ap chars_of first.leaves.shows ∙ first.text in
+    let more : Splices (T ++ inserts_in ops) first.placed (R ++ deletes_in ops) a m (ops_from a m (records_of_edit a m V ss)) k (ids_after_all a m V ss) (all_spliced t ss) =
+    subst (λ x. Splices (T ++ inserts_in ops) first.placed (R ++ deletes_in ops) a m (ops_from a m (records_of_edit a m V ss)) k (ids_after_all a m V ss) (all_spliced x ss)) chars
+    (subst (λ U. Splices (T ++ inserts_in ops) first.placed (R ++ deletes_in ops) a m (ops_from a m (records_of_edit a m U ss)) k (ids_after_all a m U ss) (all_spliced (chars_of (visible_of (R ++ deletes_in ops) first.placed)) ss)) there rest) in
     record {
       placed = more.placed;
       visible = more.visible;
-      leaves = Transforms-join T L R a n ops m first.placed first.visible (ops_from a m (records_of a m V ss)) k more.placed more.visible first.leaves more.leaves;
+      leaves = Transforms-join T L R a n ops m first.placed first.visible (ops_from a m (records_of_edit a m V ss)) k more.placed more.visible first.leaves more.leaves;
       ids = more.ids;
       text = more.text;
     }
 
 -- how long the text is after the first splice
-length_after : (T L : List Insert) (R : List (OpId × OpId)) (a : Actor) (n : ℕ) (ops : List Op) (m : ℕ) (s : Splice) (V : List OpId) (first : Splices T L R a n ops m V (spliced (chars_of (shown R L)) s.at s.del (inserted s)))
-    → IsInRange (length (shown R L)) s → length (shown R L) - s.del + length (inserted s) ≡ length (shown (R ++ deletes_in ops) first.placed)
+length_after : (T L : List Insert) (R : List (OpId × OpId)) (a : Actor) (n : ℕ) (ops : List Op) (m : ℕ) (s : Splice) (V : List OpId) (first : Splices T L R a n ops m V (splice_at (chars_of (visible_of R L)) s.at s.del (inserted_chars s)))
+    → IsInRange (length (visible_of R L)) s → length (visible_of R L) - s.del + length (inserted_chars s) ≡ length (visible_of (R ++ deletes_in ops) first.placed)
 length_after T L R a n ops m s V first range =
-    let e = length-map (shown R L) (λ (x : Insert). x.ch) in
-    let f = length-map (shown (R ++ deletes_in ops) first.placed) (λ (x : Insert). x.ch) in
-    let within : s.at + s.del ≤ length (chars_of (shown R L)) = omega (arith, range, e) in
+    let e = length-map (visible_of R L) (λ (x : Insert). x.ch) in
+    let f = length-map (visible_of (R ++ deletes_in ops) first.placed) (λ (x : Insert). x.ch) in
+    let within : s.at + s.del ≤ length (chars_of (visible_of R L)) = omega (arith, range, e) in
     let g = ap length (ap chars_of first.leaves.shows ∙ first.text) in
-    let h = length-spliced (chars_of (shown R L)) s.at s.del (inserted s) within in
+    let h = length-splice_at (chars_of (visible_of R L)) s.at s.del (inserted_chars s) within in
     omega (arith, e, f, g, h)
 
 -- all splices
-all_leave : (ss : List Splice) (T L : List Insert) (R : List (OpId × OpId)) (a : Actor) (n : ℕ) → IsReady T L R a n → AllInRange (length (shown R L)) ss → Splices T L R a n (ops_of_edit a n L R ss) (n + total_count ss) (ids_after_all a n (ids_of (shown R L)) ss) (all_spliced (chars_of (shown R L)) ss)
+all_leave : (ss : List Splice) (T L : List Insert) (R : List (OpId × OpId)) (a : Actor) (n : ℕ) → IsEditable T L R a n → AllInRange (length (visible_of R L)) ss → Splices T L R a n (ops_of_edit a n L R ss) (n + total_count ss) (ids_after_all a n (ids_of (visible_of R L)) ss) (all_spliced (chars_of (visible_of R L)) ss)
 all_leave [] T L R a n ready range =
     let members : T ≡ T ++ [] = sym (append-nil T) in
     let named : R ≡ R ++ [] = sym (append-nil R) in
     record {
       placed = L;
-      visible = shown R L;
+      visible = visible_of R L;
       leaves = record {
         refers = refl;
-        ready = subst (λ S. IsReady S L (R ++ []) a (n + 0)) members (subst (λ D. IsReady T L D a (n + 0)) named (subst (IsReady T L R a) (let e : n ≡ n + 0 = omega arith in e) ready));
-        shows = ap (λ D. shown D L) (sym named);
+        ready = subst (λ S. IsEditable S L (R ++ []) a (n + 0)) members (subst (λ D. IsEditable T L D a (n + 0)) named (subst (IsEditable T L R a) (let e : n ≡ n + 0 = omega arith in e) ready));
+        shows = ap (λ D. visible_of D L) (sym named);
       };
       ids = refl;
       text = refl;
     }
 all_leave (s ∷ ss) T L R a n ready range =
-    let W = shown R L in
+    let W = visible_of R L in
     let V = ids_of W in
     let first = splice_leaves T L R a n s ready range.0 in
     let rs = records_of_splice V s in
     let ops = ops_from a n rs in
     let M = first.placed in
-    let m = n + count_of s in
+    let m = n + count_of_splice s in
     let rest = all_leave ss (T ++ inserts_in ops) M (R ++ deletes_in ops) a m first.leaves.ready (subst (λ k. AllInRange k ss) (length_after T L R a n ops m s (ids_after a n V s) first range.0) range.1) in
     let in_ids : s.at + s.del ≤ length V = (let e = length-map W (λ (x : Insert). x.id) in omega (arith, range.0, e)) in
-    let all : ops ++ ops_from a m (records_of a m (ids_after a n V s) ss) ≡ ops_of_edit a n L R (s ∷ ss) =
-    ap (λ k. ops ++ ops_from a (n + k) (records_of a m (ids_after a n V s) ss)) (sym (count-splice V s in_ids))
-    ∙ sym (ops_from-append a n rs (records_of a m (ids_after a n V s) ss)) in
+    let all : ops ++ ops_from a m (records_of_edit a m (ids_after a n V s) ss) ≡ ops_of_edit a n L R (s ∷ ss) =
+    ap (λ k. ops ++ ops_from a (n + k) (records_of_edit a m (ids_after a n V s) ss)) (sym (count-splice V s in_ids))
+    ∙ sym (ops_from-append a n rs (records_of_edit a m (ids_after a n V s) ss)) in
     let end : m + total_count ss ≡ n + total_count (s ∷ ss) = omega arith in
     subst (λ k. Splices T L R a n (ops_of_edit a n L R (s ∷ ss)) k (ids_after_all a n V (s ∷ ss)) (all_spliced (chars_of W) (s ∷ ss))) end
     (subst (λ o. Splices T L R a n o (m + total_count ss) (ids_after_all a n V (s ∷ ss)) (all_spliced (chars_of W) (s ∷ ss))) all
-    (then_leave T L R a n ops m (ids_after a n V s) (spliced (chars_of W) s.at s.del (inserted s)) first ss (m + total_count ss) rest))
+    (then_leave T L R a n ops m (ids_after a n V s) (splice_at (chars_of W) s.at s.del (inserted_chars s)) first ss (m + total_count ss) rest))
 
 -- ---- the law
 
@@ -375,10 +375,10 @@ edit_law T L R actor n ss ready range =
     let one : (M : List Insert) → IsInOrder S M → done.placed ≡ M = (λ M order. one_order S done.placed M after.tree after.order order) in
     record {
       refers = done.leaves.refers;
-      applies = CanApply-refers ops T T actor n (numbered actor n (records_of actor n (ids_of (shown R L)) ss)) (λ e i. i) ready.above (IsFresh-under T actor n ready.above) done.leaves.refers;
-      ids = λ M order. ap (λ N. ids_of (shown D N)) (sym (one M order)) ∙ ap ids_of done.leaves.shows ∙ done.ids;
-      text = λ M order. ap (λ N. chars_of (shown D N)) (sym (one M order)) ∙ ap chars_of done.leaves.shows ∙ done.text;
-      ready = λ M order. subst (λ N. IsReady S N D actor (n + total_count ss)) (one M order) after;
+      applies = CanApply-refers ops T T actor n (numbered actor n (records_of_edit actor n (ids_of (visible_of R L)) ss)) (λ e i. i) ready.above (IsFresh-under T actor n ready.above) done.leaves.refers;
+      ids = λ M order. ap (λ N. ids_of (visible_of D N)) (sym (one M order)) ∙ ap ids_of done.leaves.shows ∙ done.ids;
+      text = λ M order. ap (λ N. chars_of (visible_of D N)) (sym (one M order)) ∙ ap chars_of done.leaves.shows ∙ done.text;
+      ready = λ M order. subst (λ N. IsEditable S N D actor (n + total_count ss)) (one M order) after;
     }
 
 -- so a sequence that took in the operations shows the text with the splices done

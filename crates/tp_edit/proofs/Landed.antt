@@ -1,4 +1,4 @@
--- Where an element that is visible after splices stood before them.
+-- Where an element that is visible after splices was before them.
 use Rattle.std.proofs.Common.{◌≡◌, ℕ, ◌+◌, ◌-◌, ◌<◌, ◌≤◌, ◌^◌, List, [], ◌∷◌, ◌++◌, length, get_or, Some, refl, sym, ap, ◌∙◌, subst, arith, take, drop}
 use Rattle.std.specs.Prelude.{slice_get}
 use Rattle.std.proofs.lemmas.List.{length-append, length-take-le, length-drop, take_all, take_more, get_or_append_left, get_or-append_right, get_or-take, get_or-drop}
@@ -9,13 +9,13 @@ use Rattle.tp_change.specs.Operations.{id_of}
 use Rattle.tp_change.specs.OpIds.{ids_from}
 use Rattle.tp_change.proofs.OpsLaws.{length-ids_from, get_or-ids_from}
 use Rattle.tp_edit.specs.declared.landing.Landing.{Landing}
-use Rattle.tp_edit.specs.Splices.{spliced}
-use Rattle.tp_edit.specs.Landings.{ids_landed, ids_through, AllFit}
+use Rattle.tp_edit.specs.Splices.{splice_at}
+use Rattle.tp_edit.specs.Landings.{ids_landed, ids_through, AllLandingsFit}
 
 -- ---- one splice
 
-pub length-spliced : {X : Type 0} (V : List X) (at del : ℕ) (N : List X) → at + del ≤ length V → length (spliced V at del N) ≡ (length V - del) + length N
-length-spliced V at del N fit =
+pub length-splice_at : {X : Type 0} (V : List X) (at del : ℕ) (N : List X) → at + del ≤ length V → length (splice_at V at del N) ≡ (length V - del) + length N
+length-splice_at V at del N fit =
     let prefix = length-take-le at V (omega arith) in
     let whole = length-append (take at V) (N ++ drop (at + del) V) in
     let back = length-append N (drop (at + del) V) in
@@ -23,32 +23,32 @@ length-spliced V at del N fit =
     omega (arith, prefix, whole, back, rest)
 
 -- an element before the splice keeps its place
-spliced_before : {X : Type 0} (V : List X) (at del : ℕ) (N : List X) (i : ℕ) (d : X) → at + del ≤ length V → i < at → slice_get (spliced V at del N) i ≡ slice_get V i
+spliced_before : {X : Type 0} (V : List X) (at del : ℕ) (N : List X) (i : ℕ) (d : X) → at + del ≤ length V → i < at → slice_get (splice_at V at del N) i ≡ slice_get V i
 spliced_before V at del N i d fit lt =
     let prefix = length-take-le at V (omega arith) in
-    let size = length-spliced V at del N fit in
+    let size = length-splice_at V at del N fit in
     let short : i < length (take at V) = omega (arith, prefix) in
-    let within : i < length (spliced V at del N) = omega (arith, size) in
-    slice_get-get_or (spliced V at del N) i d within
+    let within : i < length (splice_at V at del N) = omega (arith, size) in
+    slice_get-get_or (splice_at V at del N) i d within
     ∙ ap Some (get_or_append_left (take at V) (N ++ drop (at + del) V) d i short ∙ get_or-take at V i d lt)
     ∙ sym (slice_get-get_or V i d (omega arith))
 
 -- an element of the inserted ones
-spliced_new : {X : Type 0} (V : List X) (at del : ℕ) (N : List X) (i : ℕ) (d : X) → at + del ≤ length V → at ≤ i → i < at + length N → slice_get (spliced V at del N) i ≡ Some (get_or N (i - at) d)
+spliced_new : {X : Type 0} (V : List X) (at del : ℕ) (N : List X) (i : ℕ) (d : X) → at + del ≤ length V → at ≤ i → i < at + length N → slice_get (splice_at V at del N) i ≡ Some (get_or N (i - at) d)
 spliced_new V at del N i d fit le lt =
     let prefix = length-take-le at V (omega arith) in
-    let size = length-spliced V at del N fit in
-    let within : i < length (spliced V at del N) = omega (arith, size) in
-    slice_get-get_or (spliced V at del N) i d within
+    let size = length-splice_at V at del N fit in
+    let within : i < length (splice_at V at del N) = omega (arith, size) in
+    slice_get-get_or (splice_at V at del N) i d within
     ∙ ap Some (get_or-append_right (take at V) (N ++ drop (at + del) V) at i d prefix le ∙ get_or_append_left N (drop (at + del) V) d (i - at) (omega arith))
 
--- an element behind the splice
-spliced_behind : {X : Type 0} (V : List X) (at del : ℕ) (N : List X) (i : ℕ) (d : X) → at + del ≤ length V → at + length N ≤ i → i < length (spliced V at del N) → slice_get (spliced V at del N) i ≡ slice_get V ((i - length N) + del)
-spliced_behind V at del N i d fit le within =
+-- an element after the splice
+spliced_after : {X : Type 0} (V : List X) (at del : ℕ) (N : List X) (i : ℕ) (d : X) → at + del ≤ length V → at + length N ≤ i → i < length (splice_at V at del N) → slice_get (splice_at V at del N) i ≡ slice_get V ((i - length N) + del)
+spliced_after V at del N i d fit le within =
     let prefix = length-take-le at V (omega arith) in
-    let size = length-spliced V at del N fit in
+    let size = length-splice_at V at del N fit in
     let place : (at + del) + ((i - at) - length N) ≡ (i - length N) + del = omega arith in
-    slice_get-get_or (spliced V at del N) i d within
+    slice_get-get_or (splice_at V at del N) i d within
     ∙ ap Some (
     get_or-append_right (take at V) (N ++ drop (at + del) V) at i d prefix (omega arith)
     ∙ get_or-append_right N (drop (at + del) V) (length N) (i - at) d refl (omega arith)
@@ -61,7 +61,7 @@ spliced_behind V at del N i d fit le within =
 
 pub length-ids_landed : (a : Actor) (V : List OpId) (l : Landing) → l.at + l.del ≤ length V → length (ids_landed a V l) ≡ (length V - l.del) + l.len
 length-ids_landed a V l fit =
-    length-spliced V l.at l.del (ids_from a l.first l.len) fit ∙ ap (λ k. (length V - l.del) + k) (length-ids_from a l.first l.len)
+    length-splice_at V l.at l.del (ids_from a l.first l.len) fit ∙ ap (λ k. (length V - l.del) + k) (length-ids_from a l.first l.len)
 
 pub landed_before : (a : Actor) (V : List OpId) (l : Landing) (i : ℕ) → l.at + l.del ≤ length V → i < l.at → slice_get (ids_landed a V l) i ≡ slice_get V i
 landed_before a V l i fit lt = spliced_before V l.at l.del (ids_from a l.first l.len) i (id_of a 0) fit lt
@@ -72,10 +72,10 @@ landed_new a V l i fit le lt =
     spliced_new V l.at l.del (ids_from a l.first l.len) i (id_of a 0) fit le (omega (arith, size))
     ∙ ap Some (get_or-ids_from a l.first l.len (i - l.at) (id_of a 0) (omega arith))
 
-pub landed_behind : (a : Actor) (V : List OpId) (l : Landing) (i : ℕ) → l.at + l.del ≤ length V → l.at + l.len ≤ i → i < length (ids_landed a V l) → slice_get (ids_landed a V l) i ≡ slice_get V ((i - l.len) + l.del)
-landed_behind a V l i fit le within =
+pub landed_after : (a : Actor) (V : List OpId) (l : Landing) (i : ℕ) → l.at + l.del ≤ length V → l.at + l.len ≤ i → i < length (ids_landed a V l) → slice_get (ids_landed a V l) i ≡ slice_get V ((i - l.len) + l.del)
+landed_after a V l i fit le within =
     let size = length-ids_from a l.first l.len in
-    spliced_behind V l.at l.del (ids_from a l.first l.len) i (id_of a 0) fit (omega (arith, size)) within
+    spliced_after V l.at l.del (ids_from a l.first l.len) i (id_of a 0) fit (omega (arith, size)) within
     ∙ ap (λ k. slice_get V ((i - k) + l.del)) size
 
 -- ---- one landing after others
@@ -86,11 +86,11 @@ ids_through-push a V (k ∷ ls) l = ids_through-push a (ids_landed a V k) ls l
 
 -- the landing fits the elements that the ones before it left
 pub record FitsLast (a : Actor) (V : List OpId) (ls : List Landing) (l : Landing) : Type 0 where
-  pub before : AllFit a V ls
+  pub before : AllLandingsFit a V ls
   pub place : l.at + l.del ≤ length (ids_through a V ls)
   pub counters : l.first + l.len ≤ 2 ^ 64
 
-pub FitsLast-push : (a : Actor) (V : List OpId) (ls : List Landing) (l : Landing) → AllFit a V (ls ++ l ∷ []) → FitsLast a V ls l
+pub FitsLast-push : (a : Actor) (V : List OpId) (ls : List Landing) (l : Landing) → AllLandingsFit a V (ls ++ l ∷ []) → FitsLast a V ls l
 FitsLast-push a V [] l fit = record { before = tt; place = fit.0; counters = fit.1 }
 FitsLast-push a V (k ∷ ls) l fit =
     let rest = FitsLast-push a (ids_landed a V k) ls l fit.2 in
@@ -98,25 +98,25 @@ FitsLast-push a V (k ∷ ls) l fit =
 
 -- ---- the way back through the landings
 
--- The element at the place `from` after all landings stood at `place` before the landings from `left` on.
+-- The element at the place `from` after all landings was at `place` before the landings from `left` on.
 pub record IsTraced (a : Actor) (V : List OpId) (ls : List Landing) (from left place : ℕ) : Type 0 where
   pub within : left ≤ length ls
-  pub fit : AllFit a V (take left ls)
+  pub fit : AllLandingsFit a V (take left ls)
   pub there : place < length (ids_through a V (take left ls))
   pub same : slice_get (ids_through a V ls) from ≡ slice_get (ids_through a V (take left ls)) place
 
--- The element at the place `from` after all landings stood at `place` right after the landing l, the one at `left`.
+-- The element at the place `from` after all landings was at `place` right after the landing l, the one at `left`.
 pub record IsBehind (a : Actor) (V : List OpId) (ls : List Landing) (from left place : ℕ) (l : Landing) : Type 0 where
   pub within : left ≤ length ls
   pub last : FitsLast a V (take left ls) l
   pub there : place < length (ids_landed a (ids_through a V (take left ls)) l)
   pub same : slice_get (ids_through a V ls) from ≡ slice_get (ids_landed a (ids_through a V (take left ls)) l) place
 
-pub IsTraced-all : (a : Actor) (V : List OpId) (ls : List Landing) (place : ℕ) → AllFit a V ls → place < length (ids_through a V ls) → IsTraced a V ls place (length ls) place
+pub IsTraced-all : (a : Actor) (V : List OpId) (ls : List Landing) (place : ℕ) → AllLandingsFit a V ls → place < length (ids_through a V ls) → IsTraced a V ls place (length ls) place
 IsTraced-all a V ls place fit lt =
     let whole : take (length ls) ls ≡ ls = take_all (length ls) ls (omega arith) in record {
       within = omega arith;
-      fit = subst (AllFit a V) (sym whole) fit;
+      fit = subst (AllLandingsFit a V) (sym whole) fit;
       there = subst (λ k. place < length (ids_through a V k)) (sym whole) lt;
       same = ap (λ k. slice_get (ids_through a V k) place) (sym whole);
     }
@@ -132,12 +132,12 @@ stepped a V ls from left place d some h =
     ap (ids_through a V) split ∙ ids_through-push a V (take m ls) l in
     record {
       within = omega (arith, h.within);
-      last = FitsLast-push a V (take m ls) l (subst (AllFit a V) split h.fit);
+      last = FitsLast-push a V (take m ls) l (subst (AllLandingsFit a V) split h.fit);
       there = subst (λ k. place < length k) last h.there;
       same = h.same ∙ ap (λ k. slice_get k place) last;
     }
 
--- it stood before the landing, at the same place
+-- it was before the landing, at the same place
 pub traced_before : (a : Actor) (V : List OpId) (ls : List Landing) (from left place : ℕ) (l : Landing) → IsBehind a V ls from left place l → place < l.at → IsTraced a V ls from left place
 traced_before a V ls from left place l h lt =
     let W = ids_through a V (take left ls) in
@@ -154,9 +154,9 @@ pub traced_new : (a : Actor) (V : List OpId) (ls : List Landing) (from left plac
 traced_new a V ls from left place l h le lt =
     h.same ∙ landed_new a (ids_through a V (take left ls)) l place h.last.place le lt
 
--- it stood behind the landing
-pub traced_behind : (a : Actor) (V : List OpId) (ls : List Landing) (from left place : ℕ) (l : Landing) → IsBehind a V ls from left place l → l.at + l.len ≤ place → IsTraced a V ls from left ((place - l.len) + l.del)
-traced_behind a V ls from left place l h le =
+-- it was after the landing
+pub traced_after : (a : Actor) (V : List OpId) (ls : List Landing) (from left place : ℕ) (l : Landing) → IsBehind a V ls from left place l → l.at + l.len ≤ place → IsTraced a V ls from left ((place - l.len) + l.del)
+traced_after a V ls from left place l h le =
     let W = ids_through a V (take left ls) in
     let fit : l.at + l.del ≤ length W = h.last.place in
     let size = length-ids_landed a W l fit in
@@ -164,10 +164,10 @@ traced_behind a V ls from left place l h le =
       within = h.within;
       fit = h.last.before;
       there = omega (arith, size, h.there);
-      same = h.same ∙ landed_behind a W l place fit le h.there;
+      same = h.same ∙ landed_after a W l place fit le h.there;
     }
 
--- before all landings it stood in the sequence
+-- before all landings it was in the sequence
 pub traced_end : (a : Actor) (V : List OpId) (ls : List Landing) (from left place : ℕ) → left ≤ 0 → IsTraced a V ls from left place → (slice_get (ids_through a V ls) from ≡ slice_get V place) × (place < length V)
 traced_end a V ls from left place none h =
     let e : left ≡ 0 = omega arith in

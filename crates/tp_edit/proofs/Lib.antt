@@ -1,3 +1,7 @@
+mod ShownText
+pub mod Applied
+pub mod Numbered
+pub mod Checked
 pub mod Landed
 pub mod EdgeLaws
 pub mod SpliceLists

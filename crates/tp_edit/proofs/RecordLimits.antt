@@ -13,19 +13,19 @@ use Rattle.tp_opid.specs.declared.actor.Actor.{Actor}
 use Rattle.tp_opid.specs.declared.op_id.OpId.{OpId}
 use Rattle.tp_opid.specs.declared.op_id.Place.{Place}
 use Rattle.tp_opid.specs.declared.op_id.Place.TheVariants.{Start, After}
-use Rattle.tp_change.specs.declared.record.Record.{Record}
-use Rattle.tp_change.specs.declared.record.Record.TheVariants as record_of
+use Rattle.tp_layout.specs.declared.record.Record.{Record}
+use Rattle.tp_layout.specs.declared.record.Record.TheVariants as record_of
 use Rattle.tp_change.specs.Operations.{id_of}
-use Rattle.tp_change.specs.Operations as operations
-use Rattle.tp_change.specs.Spelling.{spelling_of_place, spelling_of_record}
-use Rattle.tp_change.specs.Limits.{IsActor, IsId, IsPlace, IsText, IsRecord}
+use Rattle.tp_layout.specs.Counts as operations
+use Rattle.tp_layout.specs.Spelling.{spelling_of_place, spelling_of_record}
+use Rattle.tp_layout.specs.Limits.{IsActor, IsId, IsPlace, IsText, IsRecord}
 use Rattle.tp_change.specs.OpIds.{ids_from}
 use Rattle.tp_change.proofs.OpsLaws.{length-ids_from}
 use Rattle.tp_edit.specs.declared.splice.Splice.{Splice}
-use Rattle.tp_edit.specs.Splices.{inserted, count_of, AllInRange}
-use Rattle.tp_edit.specs.EditRecords.{after_last, removals_of, grouped, removal, goes_on, can_count, runs_of, records_of_splice, ids_after, records_of}
+use Rattle.tp_edit.specs.Splices.{inserted_chars, count_of_splice, AllInRange}
+use Rattle.tp_edit.specs.EditRecords.{after_last, removals_of, removals_from, removal, goes_on, can_count, runs_of, records_of_splice, ids_after, records_of_edit}
 use Rattle.tp_edit.specs.EditLimits.{AllIds, RecordLaw, CountLaw, SizeLaw}
-use Rattle.tp_edit.proofs.Landed.{length-spliced}
+use Rattle.tp_edit.proofs.Landed.{length-splice_at}
 use Rattle.tp_edit.proofs.Edited.{count-append, count-splice}
 use Rattle.tp_edit.proofs.Removals.{goes_on-further}
 
@@ -35,13 +35,13 @@ use Rattle.tp_edit.proofs.Removals.{goes_on-further}
 pub count_of-records_of : CountLaw
 count_of-records_of a n V [] range = refl
 count_of-records_of a n V (s ∷ ss) range =
-    let new = ids_from a (n + s.del) (length (inserted s)) in
-    let size = length-spliced V s.at s.del new range.0 in
-    let few = length-ids_from a (n + s.del) (length (inserted s)) in
-    let left : length V - s.del + length (inserted s) ≡ length (ids_after a n V s) = omega (arith, size, few) in
-    let rest = count_of-records_of a (n + count_of s) (ids_after a n V s) ss (subst (λ k. AllInRange k ss) left range.1) in
+    let new = ids_from a (n + s.del) (length (inserted_chars s)) in
+    let size = length-splice_at V s.at s.del new range.0 in
+    let few = length-ids_from a (n + s.del) (length (inserted_chars s)) in
+    let left : length V - s.del + length (inserted_chars s) ≡ length (ids_after a n V s) = omega (arith, size, few) in
+    let rest = count_of-records_of a (n + count_of_splice s) (ids_after a n V s) ss (subst (λ k. AllInRange k ss) left range.1) in
     let first = count-splice V s range.0 in
-    let both = count-append (records_of_splice V s) (records_of a (n + count_of s) (ids_after a n V s) ss) in
+    let both = count-append (records_of_splice V s) (records_of_edit a (n + count_of_splice s) (ids_after a n V s) ss) in
     omega (arith, rest, first, both)
 
 -- an edit that takes an operation has a record
@@ -62,14 +62,14 @@ AllIds-from a n zero actor room x i = absurd i
 AllIds-from a n (suc k) actor room x (inl i) = subst (λ (y : OpId). (y.counter < 2 ^ 48) × IsActor y.actor) (sym i) (omega (arith, room), actor)
 AllIds-from a n (suc k) actor room x (inr i) = AllIds-from a (n + 1) k actor (omega (arith, room)) x i
 
-AllIds-after : (a : Actor) (n : ℕ) (V : List OpId) (s : Splice) → IsActor a → n + count_of s ≤ 2 ^ 48 → AllIds V → AllIds (ids_after a n V s)
+AllIds-after : (a : Actor) (n : ℕ) (V : List OpId) (s : Splice) → IsActor a → n + count_of_splice s ≤ 2 ^ 48 → AllIds V → AllIds (ids_after a n V s)
 AllIds-after a n V s actor room all x i =
-    let new = ids_from a (n + s.del) (length (inserted s)) in
+    let new = ids_from a (n + s.del) (length (inserted_chars s)) in
     elim (In-append x (take s.at V) (new ++ drop (s.at + s.del) V) i) [
       | inl before ↦ AllIds-take s.at V all x before
       | inr rest ↦ elim (In-append x new (drop (s.at + s.del) V) rest) [
-        | inl here ↦ AllIds-from a (n + s.del) (length (inserted s)) actor (omega (arith, room)) x here
-        | inr behind ↦ AllIds-drop (s.at + s.del) V all x behind
+        | inl here ↦ AllIds-from a (n + s.del) (length (inserted_chars s)) actor (omega (arith, room)) x here
+        | inr beyond ↦ AllIds-drop (s.at + s.del) V all x beyond
       ]
     ]
 
@@ -92,25 +92,25 @@ removal-IsRecord first n some room actor = by (n == 1) refl where
   by true one = id
   by false many = (id, several many, room)
 
-grouped-IsRecord : (xs : List OpId) (first : OpId) (n : ℕ) → 1 ≤ n → first.counter + n ≤ 2 ^ 48 → IsActor first.actor → AllIds xs → AllByRecursion IsRecord (grouped first n xs)
-grouped-IsRecord [] first n some room actor all = (removal-IsRecord first n some room actor, tt)
-grouped-IsRecord (x ∷ xs) first n some room actor all =
+removals_from-IsRecord : (xs : List OpId) (first : OpId) (n : ℕ) → 1 ≤ n → first.counter + n ≤ 2 ^ 48 → IsActor first.actor → AllIds xs → AllByRecursion IsRecord (removals_from first n xs)
+removals_from-IsRecord [] first n some room actor all = (removal-IsRecord first n some room actor, tt)
+removals_from-IsRecord (x ∷ xs) first n some room actor all =
     let later : AllIds xs = (λ y i. all y (inr i)) in
     let here = all x (inl refl) in
     let test = goes_on first n x && can_count (n + 1) in
-    elim test as (λ b. test ≡ b → AllByRecursion IsRecord (if b then grouped first (n + 1) xs else removal first n ∷ grouped x 1 xs)) [
+    elim test as (λ b. test ≡ b → AllByRecursion IsRecord (if b then removals_from first (n + 1) xs else removal first n ∷ removals_from x 1 xs)) [
       | true ↦ λ t.
           let at : first.counter + n ≡ x.counter = ap (λ (y : OpId). y.counter) (goes_on-further first n x (both_left (goes_on first n x) (can_count (n + 1)) t)) in
           let more : first.counter + (n + 1) ≤ 2 ^ 48 = omega (arith, at, here.0) in
-          grouped-IsRecord xs first (n + 1) (omega arith) more actor later
-      | false ↦ λ _. (removal-IsRecord first n some room actor, grouped-IsRecord xs x 1 (omega arith) (omega (arith, here.0)) here.1 later)
+          removals_from-IsRecord xs first (n + 1) (omega arith) more actor later
+      | false ↦ λ _. (removal-IsRecord first n some room actor, removals_from-IsRecord xs x 1 (omega arith) (omega (arith, here.0)) here.1 later)
     ] refl
 
 removals_of-IsRecord : (xs : List OpId) → AllIds xs → AllByRecursion IsRecord (removals_of xs)
 removals_of-IsRecord [] all = tt
 removals_of-IsRecord (x ∷ xs) all =
     let here = all x (inl refl) in
-    grouped-IsRecord xs x 1 (omega arith) (omega (arith, here.0)) here.1 (λ y i. all y (inr i))
+    removals_from-IsRecord xs x 1 (omega arith) (omega (arith, here.0)) here.1 (λ y i. all y (inr i))
 
 after_last-IsPlace : (p : Place) (xs : List OpId) → IsPlace p → AllIds xs → IsPlace (after_last p xs)
 after_last-IsPlace p [] place all = place
@@ -127,11 +127,11 @@ records_of-IsRecord a n V [] actor room all texts = tt
 records_of-IsRecord a n V (s ∷ ss) actor room all texts =
     let removed = removals_of (take s.del (drop s.at V)) in
     let after = after_last Start (take s.at V) in
-    AllByRecursion-append IsRecord (records_of_splice V s) (records_of a (n + count_of s) (ids_after a n V s) ss)
-    (AllByRecursion-append IsRecord removed (runs_of after (inserted s))
+    AllByRecursion-append IsRecord (records_of_splice V s) (records_of_edit a (n + count_of_splice s) (ids_after a n V s) ss)
+    (AllByRecursion-append IsRecord removed (runs_of after (inserted_chars s))
     (removals_of-IsRecord (take s.del (drop s.at V)) (AllIds-take s.del (drop s.at V) (AllIds-drop s.at V all)))
-    (runs_of-IsRecord after (inserted s) (after_last-IsPlace Start (take s.at V) tt (AllIds-take s.at V all)) texts.0))
-    (records_of-IsRecord a (n + count_of s) (ids_after a n V s) ss actor (omega (arith, room)) (AllIds-after a n V s actor (omega (arith, room)) all) texts.1)
+    (runs_of-IsRecord after (inserted_chars s) (after_last-IsPlace Start (take s.at V) tt (AllIds-take s.at V all)) texts.0))
+    (records_of-IsRecord a (n + count_of_splice s) (ids_after a n V s) ss actor (omega (arith, room)) (AllIds-after a n V s actor (omega (arith, room)) all) texts.1)
 
 -- ---- a change within its size has texts within theirs
 
@@ -152,12 +152,12 @@ AllTexts-size a n V [] scalars size = tt
 AllTexts-size a n V (s ∷ ss) scalars size =
     let removed = removals_of (take s.del (drop s.at V)) in
     let after = after_last Start (take s.at V) in
-    let runs = runs_of after (inserted s) in
-    let later = records_of a (n + count_of s) (ids_after a n V s) ss in
+    let runs = runs_of after (inserted_chars s) in
+    let later = records_of_edit a (n + count_of_splice s) (ids_after a n V s) ss in
     let spell = λ (rs : List Record). flat_map spelling_of_record rs in
     let whole = ap length (flat_map-append spelling_of_record (records_of_splice V s) later) ∙ length-append (spell (records_of_splice V s)) (spell later) in
     let first = ap length (flat_map-append spelling_of_record removed runs) ∙ length-append (spell removed) (spell runs) in
-    let text = length-run after (inserted s) in (
+    let text = length-run after (inserted_chars s) in (
       record { scalars = scalars.0; bytes = omega (arith, size, whole, first, text) },
-      AllTexts-size a (n + count_of s) (ids_after a n V s) ss scalars.1 (omega (arith, size, whole)),
+      AllTexts-size a (n + count_of_splice s) (ids_after a n V s) ss scalars.1 (omega (arith, size, whole)),
     )

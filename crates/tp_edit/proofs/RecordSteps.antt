@@ -7,12 +7,12 @@ use Rattle.tp_opid.specs.declared.actor.Actor.{Actor}
 use Rattle.tp_opid.specs.declared.op_id.OpId.{OpId}
 use Rattle.tp_opid.specs.declared.op_id.Place.{Place}
 use Rattle.tp_opid.specs.declared.op_id.Place.TheVariants.{Start, After}
-use Rattle.tp_change.specs.declared.record.Record.{Record}
-use Rattle.tp_change.specs.declared.record.Record.TheVariants as record_of
+use Rattle.tp_layout.specs.declared.record.Record.{Record}
+use Rattle.tp_layout.specs.declared.record.Record.TheVariants as record_of
 use Rattle.tp_edit.specs.declared.splice.Splice.{Splice}
-use Rattle.tp_edit.specs.Splices.{count_of, total_count, IsInRange, AllInRange}
-use Rattle.tp_edit.specs.EditRecords.{after_last, removals_of, grouped, removal, goes_on, can_count, runs_of, records_of_splice, ids_after, ids_after_all, records_of}
-use Rattle.tp_edit.specs.Landings.{landing_of, landings_of, ids_through, AllFit}
+use Rattle.tp_edit.specs.Splices.{count_of_splice, total_count, IsInRange, AllInRange}
+use Rattle.tp_edit.specs.EditRecords.{after_last, removals_of, removals_from, removal, goes_on, can_count, runs_of, records_of_splice, ids_after, ids_after_all, records_of_edit}
+use Rattle.tp_edit.specs.Landings.{landing_of, landings_of, ids_through, AllLandingsFit}
 use Rattle.tp_edit.proofs.Landed.{length-ids_landed}
 
 -- the deleted elements from the place k on: the one there, and those after it
@@ -48,7 +48,7 @@ runs_of-some after (ch ∷ text) some = refl
 -- With the open stretch of n elements from x on, and the elements from the place k on, the records are those that were
 -- there and the removals of all.
 abbrev pub IsGrouped : (W : List OpId) (at del k : ℕ) (x : OpId) (n : ℕ) (before now : List Record) → Type 0
-IsGrouped W at del k x n before now = now ++ grouped x n (drop k (take del (drop at W))) ≡ before ++ removals_of (take del (drop at W))
+IsGrouped W at del k x n before now = now ++ removals_from x n (drop k (take del (drop at W))) ≡ before ++ removals_of (take del (drop at W))
 
 pub grouped_first : (W : List OpId) (at del : ℕ) (x : OpId) (before : List Record) → at + del ≤ length W → 0 < del → slice_get W at ≡ Some x → IsGrouped W at del 1 x 1 before before
 grouped_first W at del x before range some is =
@@ -60,8 +60,8 @@ pub grouped_on : (W : List OpId) (at del k : ℕ) (x : OpId) (n : ℕ) (y : OpId
     → (goes_on x n y && can_count (n + 1)) ≡ true → IsGrouped W at del k x n before now → IsGrouped W at del (k + 1) x (n + 1) before now
 grouped_on W at del k x n y before now range lt is on h =
     let rest = drop (k + 1) (take del (drop at W)) in
-    sym (ap (λ l. now ++ grouped x n l) (removed_at W at del k y range lt is)
-    ∙ ap (λ b. now ++ (if b then grouped x (n + 1) rest else removal x n ∷ grouped y 1 rest)) on)
+    sym (ap (λ l. now ++ removals_from x n l) (removed_at W at del k y range lt is)
+    ∙ ap (λ b. now ++ (if b then removals_from x (n + 1) rest else removal x n ∷ removals_from y 1 rest)) on)
     ∙ h
 
 -- the next element begins another
@@ -69,10 +69,10 @@ pub grouped_off : (W : List OpId) (at del k : ℕ) (x : OpId) (n : ℕ) (y : OpI
     → (goes_on x n y && can_count (n + 1)) ≡ false → new ≡ now ++ removal x n ∷ [] → IsGrouped W at del k x n before now → IsGrouped W at del (k + 1) y 1 before new
 grouped_off W at del k x n y before now new range lt is off put h =
     let rest = drop (k + 1) (take del (drop at W)) in
-    ap (λ l. l ++ grouped y 1 rest) put
-    ∙ append_assoc now (removal x n ∷ []) (grouped y 1 rest)
-    ∙ sym (ap (λ l. now ++ grouped x n l) (removed_at W at del k y range lt is)
-    ∙ ap (λ b. now ++ (if b then grouped x (n + 1) rest else removal x n ∷ grouped y 1 rest)) off)
+    ap (λ l. l ++ removals_from y 1 rest) put
+    ∙ append_assoc now (removal x n ∷ []) (removals_from y 1 rest)
+    ∙ sym (ap (λ l. now ++ removals_from x n l) (removed_at W at del k y range lt is)
+    ∙ ap (λ b. now ++ (if b then removals_from x (n + 1) rest else removal x n ∷ removals_from y 1 rest)) off)
     ∙ h
 
 -- no element is left
@@ -82,9 +82,9 @@ grouped_end W at del k x n before now new range past put h =
     let size = length-drop at W in
     let whole = length-take-le del (drop at W) (omega (arith, range, size)) in
     let none : drop k (take del (drop at W)) ≡ [] = drop_all k (take del (drop at W)) (omega (arith, whole)) in
-    put ∙ ap (λ l. now ++ grouped x n l) (sym none) ∙ h
+    put ∙ ap (λ l. now ++ removals_from x n l) (sym none) ∙ h
 
--- a run of text behind the removals of a splice
+-- a run of text after the removals of a splice
 pub run_put : (removed : List Record) (after : Place) (text : List ℕ) (p : Place) (t : List ℕ) (first old new : List Record)
     → new ≡ old ++ record_of.Insert p t ∷ [] → old ≡ first ++ removed → p ≡ after → t ≡ text → 0 < length text
     → new ≡ first ++ (removed ++ runs_of after text)
@@ -100,23 +100,23 @@ no_run_put removed after (ch ∷ text) first new e none = absurd (omega arith)
 
 -- ---- one splice after others
 
-records_of-push : (a : Actor) (n : ℕ) (V : List OpId) (ss : List Splice) (s : Splice) → records_of a n V (ss ++ s ∷ []) ≡ records_of a n V ss ++ records_of_splice (ids_after_all a n V ss) s
-records_of-push a n V [] s = append_nil_right (records_of_splice V s)
+records_of_edit-push : (a : Actor) (n : ℕ) (V : List OpId) (ss : List Splice) (s : Splice) → records_of_edit a n V (ss ++ s ∷ []) ≡ records_of_edit a n V ss ++ records_of_splice (ids_after_all a n V ss) s
+records_of_edit-push a n V [] s = append_nil_right (records_of_splice V s)
   where
     append_nil_right : (xs : List Record) → xs ++ [] ≡ xs
     append_nil_right [] = refl
     append_nil_right (x ∷ xs) = ap (λ l. x ∷ l) (append_nil_right xs)
-records_of-push a n V (k ∷ ss) s =
-    ap (λ l. records_of_splice V k ++ l) (records_of-push a (n + count_of k) (ids_after a n V k) ss s)
-    ∙ sym (append_assoc (records_of_splice V k) (records_of a (n + count_of k) (ids_after a n V k) ss) (records_of_splice (ids_after_all a (n + count_of k) (ids_after a n V k) ss) s))
+records_of_edit-push a n V (k ∷ ss) s =
+    ap (λ l. records_of_splice V k ++ l) (records_of_edit-push a (n + count_of_splice k) (ids_after a n V k) ss s)
+    ∙ sym (append_assoc (records_of_splice V k) (records_of_edit a (n + count_of_splice k) (ids_after a n V k) ss) (records_of_splice (ids_after_all a (n + count_of_splice k) (ids_after a n V k) ss) s))
 
-pub records_of-more : (a : Actor) (n : ℕ) (V : List OpId) (ss : List Splice) (i : ℕ) (d : Splice) → i < length ss → records_of a n V (take (i + 1) ss) ≡ records_of a n V (take i ss) ++ records_of_splice (ids_after_all a n V (take i ss)) (get_or ss i d)
-records_of-more a n V ss i d lt = ap (records_of a n V) (take_more ss i d lt) ∙ records_of-push a n V (take i ss) (get_or ss i d)
+pub records_of_edit-more : (a : Actor) (n : ℕ) (V : List OpId) (ss : List Splice) (i : ℕ) (d : Splice) → i < length ss → records_of_edit a n V (take (i + 1) ss) ≡ records_of_edit a n V (take i ss) ++ records_of_splice (ids_after_all a n V (take i ss)) (get_or ss i d)
+records_of_edit-more a n V ss i d lt = ap (records_of_edit a n V) (take_more ss i d lt) ∙ records_of_edit-push a n V (take i ss) (get_or ss i d)
 
 landings_of-push : (n : ℕ) (ss : List Splice) (s : Splice) → landings_of n (ss ++ s ∷ []) ≡ landings_of n ss ++ landing_of (n + total_count ss) s ∷ []
 landings_of-push n [] s = ap (λ m. landing_of m s ∷ []) (let e : n ≡ n + 0 = omega arith in e)
 landings_of-push n (k ∷ ss) s =
-    ap (λ l. landing_of n k ∷ l) (landings_of-push (n + count_of k) ss s ∙ ap (λ m. landings_of (n + count_of k) ss ++ landing_of m s ∷ []) (let e : (n + count_of k) + total_count ss ≡ n + (count_of k + total_count ss) = omega arith in e))
+    ap (λ l. landing_of n k ∷ l) (landings_of-push (n + count_of_splice k) ss s ∙ ap (λ m. landings_of (n + count_of_splice k) ss ++ landing_of m s ∷ []) (let e : (n + count_of_splice k) + total_count ss ≡ n + (count_of_splice k + total_count ss) = omega arith in e))
 
 pub landings_of-more : (n : ℕ) (ss : List Splice) (i : ℕ) (d : Splice) → i < length ss → landings_of n (take (i + 1) ss) ≡ landings_of n (take i ss) ++ landing_of (n + total_count (take i ss)) (get_or ss i d) ∷ []
 landings_of-more n ss i d lt = ap (landings_of n) (take_more ss i d lt) ∙ landings_of-push n (take i ss) (get_or ss i d)
@@ -124,21 +124,21 @@ landings_of-more n ss i d lt = ap (landings_of n) (take_more ss i d lt) ∙ land
 -- what the landings leave is what the splices leave
 pub ids_through-landings : (a : Actor) (n : ℕ) (V : List OpId) (ss : List Splice) → ids_through a V (landings_of n ss) ≡ ids_after_all a n V ss
 ids_through-landings a n V [] = refl
-ids_through-landings a n V (s ∷ ss) = ids_through-landings a (n + count_of s) (ids_after a n V s) ss
+ids_through-landings a n V (s ∷ ss) = ids_through-landings a (n + count_of_splice s) (ids_after a n V s) ss
 
 -- splices in range with few enough operations are landings that fit
-pub AllFit-landings : (a : Actor) (n : ℕ) (V : List OpId) (ss : List Splice) → AllInRange (length V) ss → n + total_count ss < 2 ^ 64 → AllFit a V (landings_of n ss)
-AllFit-landings a n V [] h room = tt
-AllFit-landings a n V (s ∷ ss) h room =
+pub AllLandingsFit-landings : (a : Actor) (n : ℕ) (V : List OpId) (ss : List Splice) → AllInRange (length V) ss → n + total_count ss < 2 ^ 64 → AllLandingsFit a V (landings_of n ss)
+AllLandingsFit-landings a n V [] h room = tt
+AllLandingsFit-landings a n V (s ∷ ss) h room =
     let size = length-ids_landed a V (landing_of n s) h.0 in
-    (h.0, omega (arith, room), AllFit-landings a (n + count_of s) (ids_after a n V s) ss (subst (λ k. AllInRange k ss) (sym size) h.1) (omega (arith, room)))
+    (h.0, omega (arith, room), AllLandingsFit-landings a (n + count_of_splice s) (ids_after a n V s) ss (subst (λ k. AllInRange k ss) (sym size) h.1) (omega (arith, room)))
 
 -- the part of the splices up to a place is in range, and so is the next one
 pub AllInRange-prefix : (a : Actor) (n : ℕ) (V : List OpId) (ss : List Splice) (s : Splice) (rest : List Splice) → AllInRange (length V) (ss ++ s ∷ rest) → AllInRange (length V) ss × IsInRange (length (ids_after_all a n V ss)) s
 AllInRange-prefix a n V [] s rest h = (tt, h.0)
 AllInRange-prefix a n V (k ∷ ss) s rest h =
     let size = length-ids_landed a V (landing_of n k) h.0 in
-    let more = AllInRange-prefix a (n + count_of k) (ids_after a n V k) ss s rest (subst (λ m. AllInRange m (ss ++ s ∷ rest)) (sym size) h.1) in
+    let more = AllInRange-prefix a (n + count_of_splice k) (ids_after a n V k) ss s rest (subst (λ m. AllInRange m (ss ++ s ∷ rest)) (sym size) h.1) in
     ((h.0, subst (λ m. AllInRange m ss) size more.0), more.1)
 
 total_count-append : (xs ys : List Splice) → total_count (xs ++ ys) ≡ total_count xs + total_count ys
@@ -147,9 +147,9 @@ total_count-append (x ∷ xs) ys = let rest = total_count-append xs ys in omega 
 
 -- what is known of the splice at a place, where the ones before it are done
 pub record IsNext (a : Actor) (n : ℕ) (V : List OpId) (done : List Splice) (s : Splice) : Type 0 where
-  pub fit : AllFit a V (landings_of n done)
+  pub fit : AllLandingsFit a V (landings_of n done)
   pub place : IsInRange (length (ids_through a V (landings_of n done))) s
-  pub room : (n + total_count done) + count_of s < 2 ^ 64
+  pub room : (n + total_count done) + count_of_splice s < 2 ^ 64
 
 pub IsNext-at : (a : Actor) (n : ℕ) (V : List OpId) (ss : List Splice) (i : ℕ) (d : Splice) → i < length ss → AllInRange (length V) ss → n + total_count ss < 2 ^ 64 → IsNext a n V (take i ss) (get_or ss i d)
 IsNext-at a n V ss i d lt range room =
@@ -160,7 +160,7 @@ IsNext-at a n V ss i d lt range room =
     let prefix = AllInRange-prefix a n V done s rest (subst (AllInRange (length V)) (sym whole) range) in
     let counted = ap total_count (sym whole) ∙ total_count-append done (s ∷ rest) in
     record {
-      fit = AllFit-landings a n V done prefix.0 (omega (arith, room, counted));
+      fit = AllLandingsFit-landings a n V done prefix.0 (omega (arith, room, counted));
       place = subst (λ W. IsInRange (length W) s) (sym (ids_through-landings a n V done)) prefix.1;
       room = omega (arith, room, counted);
     }

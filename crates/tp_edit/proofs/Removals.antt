@@ -9,11 +9,11 @@ use Rattle.tp_opid.specs.declared.op_id.OpId.{OpId}
 use Rattle.tp_opid.specs.Same.{same_actor}
 use Rattle.tp_opid.proofs.Orders.{same_actor-same}
 use Rattle.tp_change.specs.declared.op.Op.TheVariants as op_of
-use Rattle.tp_change.specs.declared.record.Record.{Record}
-use Rattle.tp_change.specs.declared.record.Record.TheVariants as record_of
+use Rattle.tp_layout.specs.declared.record.Record.{Record}
+use Rattle.tp_layout.specs.declared.record.Record.TheVariants as record_of
 use Rattle.tp_change.specs.Operations.{id_of, deletes_from, ops_in, ops_from}
-use Rattle.tp_change.specs.Operations as operations
-use Rattle.tp_edit.specs.EditRecords.{deletes_of, removals_of, grouped, removal, goes_on, can_count}
+use Rattle.tp_layout.specs.Counts as operations
+use Rattle.tp_edit.specs.EditRecords.{deletes_of, removals_of, removals_from, removal, goes_on, can_count}
 use Rattle.tp_edit.specs.RemovalLaws.{RemovalLaw, LongestLaw, joins, can_join}
 
 -- ---- one stretch
@@ -59,8 +59,8 @@ deletes_from-more a m first (suc n) =
 
 -- the element goes on the stretch
 ops_from-on : (a : Actor) (m : ℕ) (first : OpId) (n : ℕ) (x : OpId) (xs : List OpId) → goes_on first n x ≡ true
-    → ops_from a m (grouped first (n + 1) xs) ≡ deletes_from a m first (n + 1) ++ ops_from a (m + (n + 1)) (deletes_of xs)
-    → ops_from a m (grouped first (n + 1) xs) ≡ deletes_from a m first n ++ ops_from a (m + n) (deletes_of (x ∷ xs))
+    → ops_from a m (removals_from first (n + 1) xs) ≡ deletes_from a m first (n + 1) ++ ops_from a (m + (n + 1)) (deletes_of xs)
+    → ops_from a m (removals_from first (n + 1) xs) ≡ deletes_from a m first n ++ ops_from a (m + n) (deletes_of (x ∷ xs))
 ops_from-on a m first n x xs on rest =
     let ds = deletes_of xs in
     let next : m + (n + 1) ≡ m + n + 1 = omega arith in
@@ -73,20 +73,20 @@ ops_from-on a m first n x xs on rest =
 
 -- the stretch ends before the element
 ops_from-off : (a : Actor) (m : ℕ) (first : OpId) (n : ℕ) (x : OpId) (xs : List OpId)
-    → ops_from a (m + n) (grouped x 1 xs) ≡ deletes_from a (m + n) x 1 ++ ops_from a (m + n + 1) (deletes_of xs)
-    → ops_from a m (removal first n ∷ grouped x 1 xs) ≡ deletes_from a m first n ++ ops_from a (m + n) (deletes_of (x ∷ xs))
+    → ops_from a (m + n) (removals_from x 1 xs) ≡ deletes_from a (m + n) x 1 ++ ops_from a (m + n + 1) (deletes_of xs)
+    → ops_from a m (removal first n ∷ removals_from x 1 xs) ≡ deletes_from a m first n ++ ops_from a (m + n) (deletes_of (x ∷ xs))
 ops_from-off a m first n x xs rest =
-    ap (λ l. l ++ ops_from a (m + operations.count_in (removal first n)) (grouped x 1 xs)) (ops_in-removal a m first n)
-    ∙ ap (λ k. deletes_from a m first n ++ ops_from a (m + k) (grouped x 1 xs)) (count_in-removal first n)
+    ap (λ l. l ++ ops_from a (m + operations.count_in (removal first n)) (removals_from x 1 xs)) (ops_in-removal a m first n)
+    ∙ ap (λ k. deletes_from a m first n ++ ops_from a (m + k) (removals_from x 1 xs)) (count_in-removal first n)
     ∙ ap (λ l. deletes_from a m first n ++ l) rest
 
-ops_from-grouped : (xs : List OpId) (a : Actor) (m : ℕ) (first : OpId) (n : ℕ) → ops_from a m (grouped first n xs) ≡ deletes_from a m first n ++ ops_from a (m + n) (deletes_of xs)
-ops_from-grouped [] a m first n = ap (λ l. l ++ []) (ops_in-removal a m first n)
-ops_from-grouped (x ∷ xs) a m first n =
-    let on = ops_from-grouped xs a m first (n + 1) in
-    let off = ops_from-grouped xs a (m + n) x 1 in
+ops_from-removals_from : (xs : List OpId) (a : Actor) (m : ℕ) (first : OpId) (n : ℕ) → ops_from a m (removals_from first n xs) ≡ deletes_from a m first n ++ ops_from a (m + n) (deletes_of xs)
+ops_from-removals_from [] a m first n = ap (λ l. l ++ []) (ops_in-removal a m first n)
+ops_from-removals_from (x ∷ xs) a m first n =
+    let on = ops_from-removals_from xs a m first (n + 1) in
+    let off = ops_from-removals_from xs a (m + n) x 1 in
     let test = goes_on first n x && can_count (n + 1) in
-    elim test as (λ b. test ≡ b → ops_from a m (if b then grouped first (n + 1) xs else removal first n ∷ grouped x 1 xs) ≡ deletes_from a m first n ++ ops_from a (m + n) (deletes_of (x ∷ xs))) [
+    elim test as (λ b. test ≡ b → ops_from a m (if b then removals_from first (n + 1) xs else removal first n ∷ removals_from x 1 xs) ≡ deletes_from a m first n ++ ops_from a (m + n) (deletes_of (x ∷ xs))) [
       | true ↦ λ t. ops_from-on a m first n x xs (both_left (goes_on first n x) (can_count (n + 1)) t) on
       | false ↦ λ _. ops_from-off a m first n x xs off
     ] refl
@@ -94,22 +94,22 @@ ops_from-grouped (x ∷ xs) a m first n =
 -- the operations of removals are those of a delete of each element
 pub ops_from-removals : RemovalLaw
 ops_from-removals a m [] = refl
-ops_from-removals a m (x ∷ xs) = ops_from-grouped xs a m x 1
+ops_from-removals a m (x ∷ xs) = ops_from-removals_from xs a m x 1
 
-count-grouped : (xs : List OpId) (first : OpId) (n : ℕ) → operations.count_of (grouped first n xs) ≡ n + length xs
-count-grouped [] first n = let one = count_in-removal first n in omega (arith, one)
-count-grouped (x ∷ xs) first n =
-    let on = count-grouped xs first (n + 1) in
-    let off = count-grouped xs x 1 in
+count-removals_from : (xs : List OpId) (first : OpId) (n : ℕ) → operations.count_of (removals_from first n xs) ≡ n + length xs
+count-removals_from [] first n = let one = count_in-removal first n in omega (arith, one)
+count-removals_from (x ∷ xs) first n =
+    let on = count-removals_from xs first (n + 1) in
+    let off = count-removals_from xs x 1 in
     let one = count_in-removal first n in
-    elim (goes_on first n x && can_count (n + 1)) as (λ b. operations.count_of (if b then grouped first (n + 1) xs else removal first n ∷ grouped x 1 xs) ≡ n + length (x ∷ xs)) [
+    elim (goes_on first n x && can_count (n + 1)) as (λ b. operations.count_of (if b then removals_from first (n + 1) xs else removal first n ∷ removals_from x 1 xs) ≡ n + length (x ∷ xs)) [
       | true ↦ omega (arith, on)
       | false ↦ omega (arith, off, one)
     ]
 
 pub count-removals : (xs : List OpId) → operations.count_of (removals_of xs) ≡ length xs
 count-removals [] = refl
-count-removals (x ∷ xs) = let all = count-grouped xs x 1 in omega (arith, all)
+count-removals (x ∷ xs) = let all = count-removals_from xs x 1 in omega (arith, all)
 
 -- ---- no two can be joined
 
@@ -125,13 +125,13 @@ AllUnjoined (r ∷ rs) = Unjoined r rs × AllUnjoined rs
 abbrev Begins : OpId → ℕ → List Record → Type 0
 Begins first n rs = (m : ℕ) × (rest : List Record) × (n ≤ m) × (rs ≡ removal first m ∷ rest)
 
-grouped-begins : (xs : List OpId) (first : OpId) (n : ℕ) → Begins first n (grouped first n xs)
-grouped-begins [] first n = (n, [], omega arith, refl)
-grouped-begins (x ∷ xs) first n =
-    let on = grouped-begins xs first (n + 1) in
-    elim (goes_on first n x && can_count (n + 1)) as (λ b. Begins first n (if b then grouped first (n + 1) xs else removal first n ∷ grouped x 1 xs)) [
+removals_from-begins : (xs : List OpId) (first : OpId) (n : ℕ) → Begins first n (removals_from first n xs)
+removals_from-begins [] first n = (n, [], omega arith, refl)
+removals_from-begins (x ∷ xs) first n =
+    let on = removals_from-begins xs first (n + 1) in
+    elim (goes_on first n x && can_count (n + 1)) as (λ b. Begins first n (if b then removals_from first (n + 1) xs else removal first n ∷ removals_from x 1 xs)) [
       | true ↦ (on.0, on.1, omega (arith, on.2), on.3)
-      | false ↦ (n, grouped x 1 xs, omega arith, refl)
+      | false ↦ (n, removals_from x 1 xs, omega arith, refl)
     ]
 
 can_join-removal : (first : OpId) (n : ℕ) (r : Record) → can_join (removal first n) r ≡ joins first n r
@@ -156,20 +156,20 @@ unjoined_at first n x rs off begins =
     subst (Unjoined (removal first n)) (sym begins.3)
     (can_join-removal first n (removal x begins.0) ∙ joins-removal first n x begins.0 ∙ apart (goes_on first n x) n begins.0 begins.2 off)
 
-grouped-unjoined : (xs : List OpId) (first : OpId) (n : ℕ) → AllUnjoined (grouped first n xs)
-grouped-unjoined [] first n = (tt, tt)
-grouped-unjoined (x ∷ xs) first n =
-    let on = grouped-unjoined xs first (n + 1) in
-    let off = grouped-unjoined xs x 1 in
+removals_from-unjoined : (xs : List OpId) (first : OpId) (n : ℕ) → AllUnjoined (removals_from first n xs)
+removals_from-unjoined [] first n = (tt, tt)
+removals_from-unjoined (x ∷ xs) first n =
+    let on = removals_from-unjoined xs first (n + 1) in
+    let off = removals_from-unjoined xs x 1 in
     let test = goes_on first n x && can_count (n + 1) in
-    elim test as (λ b. test ≡ b → AllUnjoined (if b then grouped first (n + 1) xs else removal first n ∷ grouped x 1 xs)) [
+    elim test as (λ b. test ≡ b → AllUnjoined (if b then removals_from first (n + 1) xs else removal first n ∷ removals_from x 1 xs)) [
       | true ↦ λ _. on
-      | false ↦ λ f. (unjoined_at first n x (grouped x 1 xs) f (grouped-begins xs x 1), off)
+      | false ↦ λ f. (unjoined_at first n x (removals_from x 1 xs) f (removals_from-begins xs x 1), off)
     ] refl
 
 removals-unjoined : (xs : List OpId) → AllUnjoined (removals_of xs)
 removals-unjoined [] = tt
-removals-unjoined (x ∷ xs) = grouped-unjoined xs x 1
+removals-unjoined (x ∷ xs) = removals_from-unjoined xs x 1
 
 neighbours : (before after : List Record) (r s : Record) → AllUnjoined (before ++ (r ∷ s ∷ after)) → can_join r s ≡ false
 neighbours [] after r s all = all.0

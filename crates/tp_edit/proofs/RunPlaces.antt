@@ -16,8 +16,8 @@ use Rattle.tp_change.specs.Elements.{element, inserts_in, deletes_in}
 use Rattle.tp_change.specs.OpIds.{ids_from}
 use Rattle.tp_rga.specs.Order.{EndsAt, IsInOrder}
 use Rattle.tp_rga.proofs.Places.{StopsAt, put_in_order}
-use Rattle.tp_text.specs.Text.{chars_of}
-use Rattle.tp_text.proofs.Numbered.{IsFresh-under}
+use Rattle.tp_edit.specs.Text.{chars_of}
+use Rattle.tp_edit.proofs.Numbered.{IsFresh-under}
 use Rattle.tp_edit.specs.EditRecords.{ids_of}
 
 -- the elements of a run
@@ -64,7 +64,7 @@ can_insert T F B a n p order above ends = record {
   place = place_there T F B (id_of a n) p order above ends;
 }
 
--- The elements T with the run stand in order where the run is put in after the end of F, which is its reference.
+-- The elements T with the run are in order where the run is put in after the end of F, which is its reference.
 pub run_in_order : (text : List ℕ) (T F B : List Insert) (a : Actor) (n : ℕ) (after : Place) → IsTree T → IsInOrder T (F ++ B) → EndsAt F after → IsAboveAll T (id_of a n) → IsTree (T ++ elements_of_run a n after text) × IsInOrder (T ++ elements_of_run a n after text) (F ++ (elements_of_run a n after text ++ B)) × IsAboveAll (T ++ elements_of_run a n after text) (id_of a (n + length text))
 run_in_order [] T F B a n after tree order ends above =
     subst (λ S. IsTree S × IsInOrder S (F ++ B) × IsAboveAll S (id_of a (n + 0))) (sym (append-nil T))

@@ -1,4 +1,4 @@
--- What further deletes leave of the visible elements, and where a visible element stands among all.
+-- What further deletes leave of the visible elements, and where a visible element is among all.
 use Rattle.std.proofs.Common.{◌≡◌, ℕ, ◌+◌, Bool, true, false, not, cond, ◌||◌, List, [], ◌∷◌, ◌++◌, ◌⊎◌, inl, inr, refl, sym, ap, ◌∙◌, subst}
 use Rattle.std.specs.Prelude.{filter}
 use Rattle.std.proofs.lemmas.List.Elements.{filter-append}
@@ -10,12 +10,12 @@ use Rattle.tp_opid.specs.declared.op_id.Place.{Place}
 use Rattle.tp_opid.specs.declared.op_id.Place.TheVariants.{Start, After}
 use Rattle.tp_opid.specs.Insert.{Insert}
 use Rattle.tp_opid.specs.Same.{id_eq}
-use Rattle.tp_opid.specs.Tree.{IsNew, AreApart}
+use Rattle.tp_opid.specs.Tree.{IsNew, IdsApart}
 use Rattle.tp_opid.proofs.Orders.{id_eq-itself, id_eq-flip}
 use Rattle.tp_change.specs.Operations.{ops_from}
 use Rattle.tp_change.specs.Elements.{deletes_in}
 use Rattle.tp_rga.specs.Order.{EndsAt}
-use Rattle.tp_rga.specs.Shown.{is_removed, shown}
+use Rattle.tp_rga.specs.Shown.{is_removed, visible_of}
 use Rattle.tp_edit.specs.EditRecords.{ids_of, after_last, deletes_of}
 
 -- ---- further deletes
@@ -27,26 +27,26 @@ is_removed-append (r ∷ R) D x =
     elim (id_eq r.0 x) as (λ b. (b || is_removed (R ++ D) x) ≡ ((b || is_removed R x) || is_removed D x)) [ true ↦ refl | false ↦ rest ]
 
 -- the deletes one list after another
-pub shown-append : (R D : List (OpId × OpId)) (L : List Insert) → shown (R ++ D) L ≡ shown D (shown R L)
-shown-append R D [] = refl
-shown-append R D (e ∷ L) =
-    let rest = shown-append R D L in
-    ap (λ b. cond (not b) (e ∷ shown (R ++ D) L) (shown (R ++ D) L)) (is_removed-append R D e.id)
-    ∙ elim (is_removed R e.id) as (λ b. cond (not (b || is_removed D e.id)) (e ∷ shown (R ++ D) L) (shown (R ++ D) L) ≡ shown D (cond (not b) (e ∷ shown R L) (shown R L))) [
+pub visible_of-append : (R D : List (OpId × OpId)) (L : List Insert) → visible_of (R ++ D) L ≡ visible_of D (visible_of R L)
+visible_of-append R D [] = refl
+visible_of-append R D (e ∷ L) =
+    let rest = visible_of-append R D L in
+    ap (λ b. cond (not b) (e ∷ visible_of (R ++ D) L) (visible_of (R ++ D) L)) (is_removed-append R D e.id)
+    ∙ elim (is_removed R e.id) as (λ b. cond (not (b || is_removed D e.id)) (e ∷ visible_of (R ++ D) L) (visible_of (R ++ D) L) ≡ visible_of D (cond (not b) (e ∷ visible_of R L) (visible_of R L))) [
       | true ↦ rest
       | false ↦ ap (λ M. cond (not (is_removed D e.id)) (e ∷ M) M) rest
     ]
 
-pub shown_kept : (D : List (OpId × OpId)) (W : List Insert) → ((e : Insert) → In e W → is_removed D e.id ≡ false) → shown D W ≡ W
+pub shown_kept : (D : List (OpId × OpId)) (W : List Insert) → ((e : Insert) → In e W → is_removed D e.id ≡ false) → visible_of D W ≡ W
 shown_kept D [] kept = refl
 shown_kept D (e ∷ W) kept =
-    ap (λ b. cond (not b) (e ∷ shown D W) (shown D W)) (kept e (inl refl))
+    ap (λ b. cond (not b) (e ∷ visible_of D W) (visible_of D W)) (kept e (inl refl))
     ∙ ap (λ M. e ∷ M) (shown_kept D W (λ f i. kept f (inr i)))
 
-shown_gone : (D : List (OpId × OpId)) (W : List Insert) → ((e : Insert) → In e W → is_removed D e.id ≡ true) → shown D W ≡ []
+shown_gone : (D : List (OpId × OpId)) (W : List Insert) → ((e : Insert) → In e W → is_removed D e.id ≡ true) → visible_of D W ≡ []
 shown_gone D [] gone = refl
 shown_gone D (e ∷ W) gone =
-    ap (λ b. cond (not b) (e ∷ shown D W) (shown D W)) (gone e (inl refl))
+    ap (λ b. cond (not b) (e ∷ visible_of D W) (visible_of D W)) (gone e (inl refl))
     ∙ shown_gone D W (λ f i. gone f (inr i))
 
 -- ---- the deletes of an edit
@@ -74,23 +74,23 @@ named_from-leaves a n (x ∷ xs) y apart =
     ap (λ b. b || is_removed (named_from a (n + 1) xs) y) (apart x (inl refl))
     ∙ named_from-leaves a (n + 1) xs y (λ z i. apart z (inr i))
 
--- ---- elements apart
+-- ---- elements with different identifiers
 
-pub AreApart-filter : (p : Insert → Bool) (L : List Insert) → AreApart L → AreApart (filter p L)
-AreApart-filter p [] h = tt
-AreApart-filter p (e ∷ L) h =
-    let rest = AreApart-filter p L h.1 in
+pub IdsApart-filter : (p : Insert → Bool) (L : List Insert) → IdsApart L → IdsApart (filter p L)
+IdsApart-filter p [] h = tt
+IdsApart-filter p (e ∷ L) h =
+    let rest = IdsApart-filter p L h.1 in
     let head : IsNew (filter p L) e.id = (λ f i. h.0 f (In-filter p L f i).0) in
-    elim (p e) as (λ b. AreApart (cond b (e ∷ filter p L) (filter p L))) [ true ↦ (head, rest) | false ↦ rest ]
+    elim (p e) as (λ b. IdsApart (cond b (e ∷ filter p L) (filter p L))) [ true ↦ (head, rest) | false ↦ rest ]
 
-AreApart-back : (A B : List Insert) → AreApart (A ++ B) → AreApart B
-AreApart-back [] B h = h
-AreApart-back (e ∷ A) B h = AreApart-back A B h.1
+IdsApart-back : (A B : List Insert) → IdsApart (A ++ B) → IdsApart B
+IdsApart-back [] B h = h
+IdsApart-back (e ∷ A) B h = IdsApart-back A B h.1
 
-AreApart-across : (A B : List Insert) → AreApart (A ++ B) → (e f : Insert) → In e A → In f B → id_eq f.id e.id ≡ false
-AreApart-across [] B h e f i j = absurd i
-AreApart-across (d ∷ A) B h e f (inl i) j = ap (λ (w : Insert). id_eq f.id w.id) i ∙ h.0 f (In-right f A B j)
-AreApart-across (d ∷ A) B h e f (inr i) j = AreApart-across A B h.1 e f i j
+IdsApart-across : (A B : List Insert) → IdsApart (A ++ B) → (e f : Insert) → In e A → In f B → id_eq f.id e.id ≡ false
+IdsApart-across [] B h e f i j = absurd i
+IdsApart-across (d ∷ A) B h e f (inl i) j = ap (λ (w : Insert). id_eq f.id w.id) i ∙ h.0 f (In-right f A B j)
+IdsApart-across (d ∷ A) B h e f (inr i) j = IdsApart-across A B h.1 e f i j
 
 In-ids : (X : List Insert) (x : OpId) → In x (ids_of X) → (e : Insert) × In e X × (x ≡ e.id)
 In-ids [] x i = absurd i
@@ -102,22 +102,22 @@ ids-In [] e i = absurd i
 ids-In (f ∷ X) e (inl i) = inl (ap (λ (w : Insert). w.id) i)
 ids-In (f ∷ X) e (inr i) = inr (ids-In X e i)
 
--- a delete of each element of X leaves what stands before X and behind it
-pub shown_cut : (a : Actor) (n : ℕ) (A X B : List Insert) → AreApart (A ++ (X ++ B)) → shown (named_from a n (ids_of X)) (A ++ (X ++ B)) ≡ A ++ B
+-- a delete of each element of X leaves what is before X and after it
+pub shown_cut : (a : Actor) (n : ℕ) (A X B : List Insert) → IdsApart (A ++ (X ++ B)) → visible_of (named_from a n (ids_of X)) (A ++ (X ++ B)) ≡ A ++ B
 shown_cut a n A X B apart =
     let D = named_from a n (ids_of X) in
     let keep = λ (e : Insert). not (is_removed D e.id) in
-    let prefix : shown D A ≡ A = shown_kept D A (λ e i. named_from-leaves a n (ids_of X) e.id (λ x j.
+    let prefix : visible_of D A ≡ A = shown_kept D A (λ e i. named_from-leaves a n (ids_of X) e.id (λ x j.
     let f = In-ids X x j in
-    ap (λ w. id_eq w e.id) f.2 ∙ AreApart-across A (X ++ B) apart e f.0 i (In-left f.0 X B f.1))) in
-    let middle : shown D X ≡ [] = shown_gone D X (λ e i. named_from-removes a n (ids_of X) e.id (ids-In X e i)) in
-    let back : shown D B ≡ B = shown_kept D B (λ e i. named_from-leaves a n (ids_of X) e.id (λ x j.
+    ap (λ w. id_eq w e.id) f.2 ∙ IdsApart-across A (X ++ B) apart e f.0 i (In-left f.0 X B f.1))) in
+    let middle : visible_of D X ≡ [] = shown_gone D X (λ e i. named_from-removes a n (ids_of X) e.id (ids-In X e i)) in
+    let back : visible_of D B ≡ B = shown_kept D B (λ e i. named_from-leaves a n (ids_of X) e.id (λ x j.
     let f = In-ids X x j in
-    ap (λ w. id_eq w e.id) f.2 ∙ id_eq-flip e.id f.0.id (AreApart-across X B (AreApart-back A (X ++ B) apart) f.0 e f.1 i))) in
-    filter-append keep A (X ++ B) ∙ ap (λ M. shown D A ++ M) (filter-append keep X B)
-    ∙ ap (λ M. M ++ (shown D X ++ shown D B)) prefix ∙ ap (λ M. A ++ (M ++ shown D B)) middle ∙ ap (λ M. A ++ M) back
+    ap (λ w. id_eq w e.id) f.2 ∙ id_eq-flip e.id f.0.id (IdsApart-across X B (IdsApart-back A (X ++ B) apart) f.0 e f.1 i))) in
+    filter-append keep A (X ++ B) ∙ ap (λ M. visible_of D A ++ M) (filter-append keep X B)
+    ∙ ap (λ M. M ++ (visible_of D X ++ visible_of D B)) prefix ∙ ap (λ M. A ++ (M ++ visible_of D B)) middle ∙ ap (λ M. A ++ M) back
 
--- ---- where the last visible element of a prefix stands
+-- ---- where the last visible element of a prefix is
 
 -- a list is empty or has a last element
 snoc_cases : {X : Type 0} (xs : List X) → (xs ≡ []) ⊎ ((ys : List X) × (x : X) × (xs ≡ ys ++ x ∷ []))
@@ -161,7 +161,7 @@ after_last-snoc p (e ∷ A) f = after_last-snoc (After e.id) A f
 
 -- Where the visible elements are A and then B, all elements are F and then G: F ends with the last of A and shows A,
 -- and G shows B.
-pub split_shown : (R : List (OpId × OpId)) (L A B : List Insert) → shown R L ≡ A ++ B → (F : List Insert) × (G : List Insert) × (L ≡ F ++ G) × (shown R F ≡ A) × (shown R G ≡ B) × EndsAt F (after_last Start (ids_of A))
+pub split_shown : (R : List (OpId × OpId)) (L A B : List Insert) → visible_of R L ≡ A ++ B → (F : List Insert) × (G : List Insert) × (L ≡ F ++ G) × (visible_of R F ≡ A) × (visible_of R G ≡ B) × EndsAt F (after_last Start (ids_of A))
 split_shown R L A B e = elim (snoc_cases A) [
   | inl none ↦ ([], L, refl, sym none, e ∙ ap (λ M. M ++ B) none, subst (λ M. EndsAt [] (after_last Start (ids_of M))) (sym none) refl)
   | inr last ↦

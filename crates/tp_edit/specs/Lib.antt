@@ -1,3 +1,5 @@
+pub mod Text
+pub mod Applying
 pub mod Splices
 pub mod EditRecords
 pub mod Landings

@@ -2,8 +2,8 @@
 use Rattle.std.specs.Prelude.{◌≡◌, ℕ, ◌+◌, ◌&&◌, Bool, false, List, ◌∷◌, ◌++◌}
 use Rattle.tp_opid.specs.declared.actor.Actor.{Actor}
 use Rattle.tp_opid.specs.declared.op_id.OpId.{OpId}
-use Rattle.tp_change.specs.declared.record.Record.{Record}
-use Rattle.tp_change.specs.declared.record.Record.TheVariants.{Insert, Delete, DeleteRun}
+use Rattle.tp_layout.specs.declared.record.Record.{Record}
+use Rattle.tp_layout.specs.declared.record.Record.TheVariants.{Insert, Delete, DeleteRun}
 use Rattle.tp_change.specs.Operations.{ops_from}
 use Rattle.tp_edit.specs.EditRecords.{deletes_of, removals_of, goes_on, can_count}
 

@@ -7,14 +7,15 @@ ghost use Rattle.tp_edit.specs.RemovalLaws.{LongestLaw, RemovalLaw};
 /// The text after an edit is the text before with each splice done in turn.
 ///
 /// Where an actor's next counter makes an identifier above all that are there, the operations of an edit that is in
-/// range may be applied, and in whatever way they come to be placed, what is visible afterwards is what was visible
-/// before with each splice done on what the ones before it left: a deleted element goes, and a run stands directly
-/// after the visible element before it.
+/// range may be applied. In whatever way they come to be placed, what is visible afterwards is what was visible before
+/// with each splice done on what the ones before it left: a deleted element goes, and a run is placed directly after
+/// the visible element before it.
 pub fn edit_does_its_splices()
     ensures { EditLaw }
 {}
 
-/// The same of a sequence that took in the operations of the edit, one after another.
+/// The text of a sequence that took in the operations of an edit, one after another, is the text before with each
+/// splice done in turn.
 pub fn applied_edit_does_its_splices()
     ensures { AppliedLaw }
 {}

@@ -1,11 +1,11 @@
-//! Splices that were done: where an element that is visible after them stood before them.
+//! Splices that were done: where an element that is visible after them was before them.
 
 ghost use Rattle.std.specs.Prelude.{◌≡◌, ◌+◌, ◌<◌, ◌≤◌, ◌^◌, ◌++◌, ◌∷◌, ℕ, List, [], Some, length, slice_get, IfOk, OnOk};
 ghost use Rattle.tp_opid.specs.declared.actor.Actor.{Actor as Author};
 ghost use Rattle.tp_opid.specs.declared.op_id.OpId.{OpId as Id};
-ghost use Rattle.tp_rga.specs.Shown.{shown};
+ghost use Rattle.tp_rga.specs.Shown.{visible_of};
 ghost use Rattle.tp_edit.specs.EditRecords.{visible_ids};
-ghost use Rattle.tp_edit.specs.Landings.{AllFit, HasLandings, IsEdge, LeavesEdge, ids_through};
+ghost use Rattle.tp_edit.specs.Landings.{AllLandingsFit, HasLandings, IsEdge, LeavesEdge, ids_through};
 
 use std::alloc::{AllocError, Global};
 use tp_opid::{Actor, OpId};
@@ -65,7 +65,7 @@ pub struct Landings {
 }
 
 impl Landings {
-    // None, with room for so many.
+    // None, with room for `room`.
     pub fn none(alloc: Global, room: usize) -> Result<Landings, AllocError>
         ensures done { IfOk result (λ l. l.done.items ≡ []) }
         ensures edge { IfOk result (λ l. (actor : Author) (V : List Id) → IsEdge actor V [] l.edge) }
@@ -100,7 +100,7 @@ impl Landings {
 fn visible_id<S: Sequence>(sequence: &S, position: u128) -> OpId
     requires there { position < length
         (visible_ids (S.removals sequence.now) (S.placed sequence.now)) }
-    requires counted { length (shown (S.removals sequence.now) (S.placed sequence.now)) < 2 ^ 64 }
+    requires counted { length (visible_of (S.removals sequence.now) (S.placed sequence.now)) < 2 ^ 64 }
     ensures { slice_get (visible_ids (S.removals sequence.now) (S.placed sequence.now)) position
         ≡ Some result }
 {
@@ -118,7 +118,7 @@ fn traced_id<S: Sequence>(
     landings: &[Landing],
     mut position: u128,
 ) -> OpId
-    requires fit { AllFit actor
+    requires fit { AllLandingsFit actor
         (visible_ids (S.removals sequence.now) (S.placed sequence.now))
         landings.now }
     requires there { position < length
@@ -126,7 +126,7 @@ fn traced_id<S: Sequence>(
         (visible_ids (S.removals sequence.now) (S.placed sequence.now))
         landings.now) }
     requires near { position < 2 ^ 65 }
-    requires counted { length (shown (S.removals sequence.now) (S.placed sequence.now)) < 2 ^ 64 }
+    requires counted { length (visible_of (S.removals sequence.now) (S.placed sequence.now)) < 2 ^ 64 }
     ensures { slice_get
         (ids_through actor
         (visible_ids (S.removals sequence.now) (S.placed sequence.now))
@@ -167,7 +167,7 @@ pub fn id_through<S: Sequence>(
         (visible_ids (S.removals sequence.now) (S.placed sequence.now))
         landings.now.done.items) }
     requires near { position < 2 ^ 65 }
-    requires counted { length (shown (S.removals sequence.now) (S.placed sequence.now)) < 2 ^ 64 }
+    requires counted { length (visible_of (S.removals sequence.now) (S.placed sequence.now)) < 2 ^ 64 }
     ensures { slice_get
         (ids_through actor
         (visible_ids (S.removals sequence.now) (S.placed sequence.now))

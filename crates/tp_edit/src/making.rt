@@ -1,9 +1,9 @@
 //! The records of an edit.
 
 ghost use Rattle.std.specs.Prelude.{◌≡◌, ◌+◌, ◌<◌, ◌^◌, ◌++◌, ◌&&◌, length, drop, take, IfOk, OnOk};
-ghost use Rattle.tp_rga.specs.Shown.{shown};
-ghost use Rattle.tp_edit.specs.Splices.{AllInRange, IsInRange, inserted, total_count};
-ghost use Rattle.tp_edit.specs.EditRecords.{can_count, goes_on, records_of, records_of_splice, removal, removals_of, visible_ids};
+ghost use Rattle.tp_rga.specs.Shown.{visible_of};
+ghost use Rattle.tp_edit.specs.Splices.{AllInRange, IsInRange, inserted_chars, total_count};
+ghost use Rattle.tp_edit.specs.EditRecords.{can_count, goes_on, records_of_edit, records_of_splice, removal, removals_of, visible_ids};
 ghost use Rattle.tp_edit.specs.Landings.{HasLandings, ids_through};
 
 use crate::landing::{Landing, Landings, id_through};
@@ -25,7 +25,7 @@ fn removal_of(first: OpId, count: u32) -> Record
     }
 }
 
-// Whether the element goes on a stretch of so many, and a record can count it too.
+// Whether the element goes on a stretch of `count`, and a record can count it too.
 fn extends(first: &OpId, count: u32, target: &OpId) -> bool
     ensures { result ≡ (goes_on first.now count target.now && can_count (count + 1)) }
 {
@@ -51,7 +51,7 @@ fn append_removals<S: Sequence>(
         (visible_ids (S.removals sequence.now) (S.placed sequence.now))
         landings.now.done.items))
         splice.now }
-    requires counted { length (shown (S.removals sequence.now) (S.placed sequence.now)) < 2 ^ 64 }
+    requires counted { length (visible_of (S.removals sequence.now) (S.placed sequence.now)) < 2 ^ 64 }
     ensures { OnOk result (records.new.items
         ≡ records.old.items
         ++ removals_of (take splice.now.del
@@ -98,8 +98,8 @@ fn append_splice<S: Sequence>(
         (visible_ids (S.removals sequence.now) (S.placed sequence.now))
         landings.now.done.items))
         splice.now }
-    requires count { count ≡ length (inserted splice.now) }
-    requires counted { length (shown (S.removals sequence.now) (S.placed sequence.now)) < 2 ^ 64 }
+    requires count { count ≡ length (inserted_chars splice.now) }
+    requires counted { length (visible_of (S.removals sequence.now) (S.placed sequence.now)) < 2 ^ 64 }
     ensures { OnOk result (records.new.items
         ≡ records.old.items
         ++ records_of_splice
@@ -149,11 +149,11 @@ pub fn records<S: Sequence>(
     splices: &[Splice],
 ) -> Result<Vec<Record>, AllocError>
     requires in_range { AllInRange
-        (length (shown (S.removals sequence.now) (S.placed sequence.now)))
+        (length (visible_of (S.removals sequence.now) (S.placed sequence.now)))
         splices.now }
     requires counters { start + total_count splices.now < 2 ^ 64 }
     ensures { IfOk result (λ records. records.items
-        ≡ records_of actor start
+        ≡ records_of_edit actor start
         (visible_ids (S.removals sequence.now) (S.placed sequence.now))
         splices.now) }
 {

@@ -2,7 +2,7 @@
 
 ghost use Rattle.std.specs.Prelude.{◌≡◌, ◌↔◌, IsTrue, length, min, true};
 ghost use Rattle.std.specs.Str.{all_scalars};
-ghost use Rattle.tp_edit.specs.Splices.{AllInRange, AllScalars, inserted, total_count};
+ghost use Rattle.tp_edit.specs.Splices.{AllInRange, AllScalars, inserted_chars, total_count};
 
 use tp_list::char_count;
 
@@ -10,7 +10,7 @@ use tp_list::char_count;
 /// comes in their place. Positions and lengths count Unicode scalar values.
 #[derive(Clone, Copy, Debug)]
 pub struct Splice<'a> {
-    /// How many characters stand before it.
+    /// How many characters are before it.
     pub at: usize,
     /// How many characters it deletes.
     pub del: usize,
@@ -21,14 +21,14 @@ pub struct Splice<'a> {
 impl Splice<'_> {
     /// How many characters it inserts. One pass over its text.
     pub fn inserted_count(&self) -> usize
-        ensures count { result ≡ length (inserted self.now) }
-        ensures scalars { all_scalars (inserted self.now) ≡ true }
+        ensures count { result ≡ length (inserted_chars self.now) }
+        ensures scalars { IsTrue (all_scalars (inserted_chars self.now)) }
     {
         char_count(self.text)
     }
 }
 
-/// Whether each splice stands within the text that the ones before it leave, where the first meets a text of `len`
+/// Whether each splice is within the text that the ones before it leave, where the first meets a text of `len`
 /// characters: `at` is at most the length, and `del` at most what is left from there. One pass over the texts.
 ///
 /// Texts that come and go again may be longer together than any number of `usize`, so the length is kept in `u128`.

@@ -2,24 +2,24 @@
 use Rattle.std.specs.Prelude.{◌≡◌, ℕ, List, [], Option, Some, None}
 use Rattle.tp_opid.specs.declared.actor.Actor.{Actor}
 use Rattle.tp_opid.specs.declared.hash.Hash.{Hash}
-use Rattle.tp_peer.specs.PeerData.{PeerData}
-use Rattle.tp_session.specs.Conversation.{ConversationData}
+use Rattle.tp_peer.specs.PeerState.{PeerState}
+use Rattle.tp_session.specs.Conversation.{ConversationState}
 
 -- the peer; how many links were opened; the session that goes on, if one does; how many changes entered in the last
 -- one; the bytes of the last answer
 pub record EditorState : Type 0 where
-  pub peer : PeerData
+  pub peer : PeerState
   pub links : ℕ
-  pub held : Option ConversationData
+  pub held : Option ConversationState
   pub entered : ℕ
   pub answer : List ℕ
 
 -- an editor over the peer, before any link and session
-abbrev pub alone : PeerData → EditorState
-alone p = record { peer = p; links = 0; held = None; entered = 0; answer = [] }
+abbrev pub new_editor : PeerState → EditorState
+new_editor p = record { peer = p; links = 0; held = None; entered = 0; answer = [] }
 
 -- the peer, whose edits are the actor's, if one is given
-abbrev pub under : Option Actor → PeerData → PeerData
+abbrev pub under : Option Actor → PeerState → PeerState
 under None p = p
 under (Some actor) p = record p { actor = actor }
 

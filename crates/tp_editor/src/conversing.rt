@@ -1,16 +1,16 @@
 //! What the bytes of the other side come to, and the bytes of the answers.
 
 ghost use Rattle.std.specs.Prelude.{◌≡◌, ◌<◌, [], ◌++◌, List, ℕ, length, false, IfOk, IfErr, OnOk, OnErr};
-ghost use Rattle.tp_session.specs.Conversation.{BreaksAt, Goes};
+ghost use Rattle.tp_session.specs.Conversation.{RefusesFeed, Goes};
 ghost use Rattle.tp_session.specs.declared.error.NetError.TheVariants as net;
 ghost use Rattle.tp_session.specs.Laws.{is_over};
-ghost use Rattle.tp_editor.specs.Meeting.{AnswersAll, BreaksOff, IsAnswered, WithRefusal};
+ghost use Rattle.tp_editor.specs.Meeting.{AnswersAll, AnswersUntilBreak, IsAnswered, WithRefusal};
 
 use std::alloc::Global;
 use tp_frame::write_frame;
 use tp_session::{Conversation, Host, NetError, Next, Output};
 
-// Puts the bytes behind the answer, which has them alone where it was empty. The only refusal is `OutOfMemory`, which
+// Puts the bytes after the answer, which has them alone where it was empty. The only refusal is `OutOfMemory`, which
 // leaves it.
 fn put(answer: &mut Vec<u8>, bytes: Vec<u8>) -> Result<(), NetError>
     ensures ok { OnOk result (answer.new.items ≡ answer.old.items ++ bytes.items) }
@@ -30,7 +30,7 @@ fn put(answer: &mut Vec<u8>, bytes: Vec<u8>) -> Result<(), NetError>
     }
 }
 
-/// Puts the refusal behind the answer that is due for the error, if one is and memory isn't refused.
+/// Puts the refusal after the answer that is due for the error, if one is and memory isn't refused.
 pub(crate) fn put_refusal(alloc: Global, answer: &mut Vec<u8>, error: NetError)
     ensures { WithRefusal answer.old.items error answer.new.items }
 {
@@ -41,7 +41,7 @@ pub(crate) fn put_refusal(alloc: Global, answer: &mut Vec<u8>, error: NetError)
     }
 }
 
-// Feeds the bytes, and puts the answer to the next frame behind the others. How it goes on.
+// Feeds the bytes, and puts the answer to the next frame after the others. How it goes on.
 fn answer_next<H: Host>(
     conversation: &mut Conversation,
     bytes: &[u8],
@@ -54,7 +54,7 @@ fn answer_next<H: Host>(
         (conversation.old.bytes ++ bytes.now) next sent
         (conversation.new.session, H.seen host.new) conversation.new.bytes
         × (answer.new.items ≡ answer.old.items ++ sent)) }
-    ensures err { IfErr result (λ e. BreaksAt H.steps
+    ensures err { IfErr result (λ e. RefusesFeed H.steps
         (conversation.old.session, H.seen host.old) (conversation.old.bytes ++ bytes.now) e
         (H.seen host.new)) }
     ensures same { OnErr result (answer.new.items ≡ answer.old.items) }
@@ -65,7 +65,7 @@ fn answer_next<H: Host>(
 }
 
 /// Feeds the bytes, and answers the whole frames in turn, until the session has ended or none is left. Whether it has
-/// ended; the answers are put behind an empty answer.
+/// ended; the answers are put in an empty answer, in order.
 pub(crate) fn answer_all<H: Host>(
     conversation: &mut Conversation,
     bytes: &[u8],
@@ -80,7 +80,7 @@ pub(crate) fn answer_all<H: Host>(
         (conversation.new.session, H.seen host.new) conversation.new.bytes
         × IsAnswered ended conversation.new.session conversation.new.bytes) }
     ensures err { IfErr result (λ e.
-        BreaksOff H.steps (conversation.old.session, H.seen host.old)
+        AnswersUntilBreak H.steps (conversation.old.session, H.seen host.old)
         (conversation.old.bytes ++ bytes.now) answer.new.items e (H.seen host.new)) }
 {
     let mut next = answer_next(conversation, bytes, host, answer)?;

@@ -4,7 +4,7 @@ ghost use Rattle.std.specs.Prelude.{◌≡◌, ◌+◌, ◌≤◌, ◌++◌, [],
 ghost use Rattle.std.specs.Vec.{vec_len, vec_capacity};
 ghost use Rattle.tp_peer.specs.Common.{chars};
 ghost use Rattle.tp_document.specs.Editing.{DoesSplices};
-ghost use Rattle.tp_peer.specs.PeerStep.{PeerStep, Edit, Made, replied};
+ghost use Rattle.tp_peer.specs.PeerStep.{PeerStep, Edit, Made, reply_of_result};
 ghost use Rattle.tp_editor.specs.EditorState.{KeepsRest, made_bytes, under};
 
 use crate::editor::Editor;
@@ -17,7 +17,7 @@ use tp_peer::PeerError;
 // How many bytes a hash has.
 const HASH_LEN: usize = 32;
 
-// Puts the bytes of the hash, if there is one, behind an answer that has room for them.
+// Puts the bytes of the hash, if there is one, after an answer that has room for them.
 fn put_made(answer: &mut Vec<u8>, made: &Option<Hash>)
     requires { vec_len answer.old + HASH_LEN ≤ vec_capacity answer.old }
     ensures { answer.new.items ≡ answer.old.items ++ made_bytes made.now }
@@ -44,7 +44,7 @@ impl<J: Journal> Editor<J> {
         message: &str,
     ) -> Result<Option<Hash>, PeerError>
         ensures step { PeerStep (under actor self.old.peer)
-            (Edit splices.now time (chars message.now)) (replied Made result) self.new.peer }
+            (Edit splices.now time (chars message.now)) (reply_of_result Made result) self.new.peer }
         ensures text { IfOk result
             (λ _. DoesSplices self.old.peer.applied self.new.peer.applied splices.now) }
         ensures stays { OnErr result (self.new.peer.applied ≡ self.old.peer.applied) }
@@ -68,7 +68,7 @@ impl<J: Journal> Editor<J> {
     ) -> Result<Option<Hash>, PeerError>
         requires { self.old.answer ≡ [] }
         ensures step { PeerStep self.old.peer (Edit splices.now time (chars message.now))
-            (replied Made result) self.new.peer }
+            (reply_of_result Made result) self.new.peer }
         ensures text { IfOk result
             (λ _. DoesSplices self.old.peer.applied self.new.peer.applied splices.now) }
         ensures stays { OnErr result (self.new.peer.applied ≡ self.old.peer.applied) }

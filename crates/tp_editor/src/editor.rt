@@ -1,7 +1,7 @@
 //! The editor.
 
 ghost use Rattle.std.specs.Prelude.{◌≡◌, []};
-ghost use Rattle.tp_editor.specs.EditorState.{alone};
+ghost use Rattle.tp_editor.specs.EditorState.{new_editor};
 
 use crate::hosting::Hosted;
 use std::alloc::Global;
@@ -20,10 +20,10 @@ pub(crate) struct Held {
 
 impl Model for Held {
     ghost use Rattle.std.specs.Prelude.{◌≡◌, false};
-    ghost use Rattle.tp_session.specs.Conversation.{ConversationData};
+    ghost use Rattle.tp_session.specs.Conversation.{ConversationState};
     ghost use Rattle.tp_session.specs.Laws.{is_over};
 
-    ghost Value = { ConversationData };
+    ghost Value = { ConversationState };
 
     ghost view = { λ h. h.conversation };
 
@@ -68,7 +68,7 @@ impl<J: Journal> Model for Editor<J> {
 impl<J: Journal> Editor<J> {
     /// An editor over the peer, with no links, no session and an empty answer. No memory.
     pub fn of(alloc: Global, peer: Peer<J>) -> Editor<J>
-        ensures { result ≡ alone peer }
+        ensures { result ≡ new_editor peer }
     {
         Editor {
             alloc,
@@ -103,7 +103,7 @@ impl<J: Journal> Editor<J> {
     }
 
     /// How many changes entered in the session that goes on, or in the last one.
-    pub fn entered(&self) -> u64
+    pub fn entered_count(&self) -> u64
         ensures { result ≡ self.now.entered }
     {
         self.entered

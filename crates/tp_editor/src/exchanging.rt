@@ -1,7 +1,7 @@
 //! Changes of others.
 
 ghost use Rattle.std.specs.Prelude.{◌≡◌};
-ghost use Rattle.tp_peer.specs.PeerStep.{PeerStep, Merge, Merged, replied};
+ghost use Rattle.tp_peer.specs.PeerStep.{PeerStep, Merge, Merged, reply_of_result};
 ghost use Rattle.tp_peer.specs.Taking.{report_of};
 ghost use Rattle.tp_editor.specs.EditorState.{KeepsAnswer};
 ghost use Rattle.tp_editor.specs.Exchanging.{TakesChange, refusal_of_change};
@@ -26,7 +26,7 @@ fn of_change(error: PeerError) -> PeerError
 
 impl<J: Journal> Editor<J> {
     /// Receives a change: it enters, waits for what it depends on, or is refused for good, as one that is there
-    /// already. It is received as a message with nothing else, on a link of its own that is forgotten behind it, and
+    /// already. It is received as a message with nothing else, on a link of its own that is forgotten afterwards, and
     /// with the refusals of [`Peer::receive_message`](tp_peer::Peer::receive_message), but `PendingFull` of the
     /// document for that of the message. In a file it is on the disk with the next edit or message.
     pub fn apply(&mut self, change: Change) -> Result<Applied, PeerError>
@@ -49,7 +49,7 @@ impl<J: Journal> Editor<J> {
     /// and with its refusals. In a file they are on the disk with the next edit or message.
     pub fn merge<K: Journal>(&mut self, other: &Editor<K>) -> Result<Applied, PeerError>
         ensures step { PeerStep self.old.peer (Merge other.now.peer)
-            (replied (λ a. Merged (report_of a)) result) self.new.peer }
+            (reply_of_result (λ a. Merged (report_of a)) result) self.new.peer }
         ensures rest { KeepsAnswer self.old self.new }
     {
         self.host.peer.merge(&other.host.peer)

@@ -12,7 +12,7 @@ pub const MOST_LINKS: usize = 1_022;
 /// The number of the link on which sessions are held.
 pub const SESSION: u64 = 1_022;
 
-/// The number of the link on which a single change is received, which is forgotten behind it.
+/// The number of the link on which a single change is received, which is forgotten afterwards.
 pub const APPLYING: u64 = 1_023;
 
 /// A peer that holds its sessions on one link.
@@ -22,14 +22,14 @@ pub(crate) struct Hosted<J: Journal> {
 }
 
 impl<J: Journal> Host for Hosted<J> {
-    ghost use Rattle.tp_peer.specs.PeerData.{PeerData};
-    ghost use Rattle.tp_editor.specs.Meeting.{Asks};
+    ghost use Rattle.tp_peer.specs.PeerState.{PeerState};
+    ghost use Rattle.tp_editor.specs.Meeting.{StepsOnSession};
 
-    ghost Seen = { PeerData };
+    ghost Seen = { PeerState };
 
     ghost seen = { λ h. h.peer };
 
-    ghost steps = { Asks };
+    ghost steps = { StepsOnSession };
 
     ghost goes_on = { λ _ _. Unit {0} };
 

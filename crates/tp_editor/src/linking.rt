@@ -3,7 +3,7 @@
 ghost use Rattle.std.specs.Prelude.{◌≡◌, ◌↔◌, ◌+◌, ◌≤◌, Err, IfOk, OnErr, IsOkUnless};
 ghost use Rattle.tp_peer.specs.declared.error.PeerError.TheVariants.{TooManyLinks};
 ghost use Rattle.tp_editor.specs.EditorState.{KeepsAnswer, KeepsRest};
-ghost use Rattle.tp_editor.specs.Exchanging.{Generates, Receives};
+ghost use Rattle.tp_editor.specs.Exchanging.{Generates, ReceivesOnLink};
 
 use crate::editor::Editor;
 use crate::error::EditorError;
@@ -55,7 +55,7 @@ impl<J: Journal> Editor<J> {
     /// Receives the bytes of a message of the other of the link, as [`Peer::receive_bytes`](tp_peer::Peer::receive_bytes)
     /// does and with its refusals. `NoLink` where there is no such link.
     pub fn receive(&mut self, link: usize, bytes: &[u8]) -> Result<Applied, EditorError>
-        ensures received { Receives self.old link bytes.now result self.new }
+        ensures received { ReceivesOnLink self.old link bytes.now result self.new }
         ensures rest { KeepsAnswer self.old self.new }
     {
         if link >= self.links {

@@ -1,7 +1,7 @@
 //! Sessions of an editor.
 
 ghost use Rattle.std.specs.Prelude.{◌≡◌, [], None, IfErr, OnOk, OnErr};
-ghost use Rattle.tp_editor.specs.Meeting.{Begins, Feeds, FeedsHeld, RefusesBegin};
+ghost use Rattle.tp_editor.specs.Meeting.{BeginsSession, Feeds, FeedsHeld, RefusesBegin};
 
 use crate::conversing::{answer_all, put_refusal};
 use crate::editor::{Editor, Held};
@@ -9,14 +9,14 @@ use tp_journal::Journal;
 use tp_session::{Conversation, Host, NetError, Role};
 
 impl<J: Journal> Editor<J> {
-    /// Begins a session as the side with the role, and ends one that goes on, of which nothing more is sent. What the
-    /// last one told is forgotten. The answer is the frame that is to be sent at once: a client's hello, and nothing of
-    /// a server.
+    /// Begins a session as the side with the role, and ends one that goes on: nothing more of it is sent. What the
+    /// messages of the last one said is forgotten. The answer is the frame that is to be sent at once: a client's
+    /// hello, and nothing of a server.
     ///
     /// It is refused as a peer's `Stopped`; the only other refusal is `OutOfMemory`. No session goes on then, and the
     /// answer is empty.
     pub fn begin(&mut self, role: Role) -> Result<(), NetError>
-        ensures ok { OnOk result (Begins self.old role self.new) }
+        ensures ok { OnOk result (BeginsSession self.old role self.new) }
         ensures err { IfErr result (λ e. RefusesBegin self.old e self.new) }
         ensures none { OnErr result (self.new.held ≡ None) }
         ensures refused { OnErr result (self.new.answer ≡ []) }
@@ -71,7 +71,7 @@ impl<J: Journal> Editor<J> {
     {
         let Held { mut conversation } = held;
         let fed = answer_all(&mut conversation, bytes, &mut self.host, &mut self.answer);
-        self.entered = conversation.applied();
+        self.entered = conversation.applied_count();
         match fed {
             Ok(false) => {
                 self.held = Some(Held { conversation });

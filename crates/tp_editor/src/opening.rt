@@ -3,19 +3,19 @@
 ghost use Rattle.std.specs.Prelude.{◌≡◌, ◌⊎◌, [], IfOk, IfErr, IsOkUnless, OnOk, OnErr};
 ghost use Rattle.tp_document.specs.declared.error.DocError.TheVariants as doc;
 ghost use Rattle.tp_journal.specs.Journal.{no_device};
-ghost use Rattle.tp_journal.specs.Recovery.{HasTail, Recovers};
-ghost use Rattle.tp_journal.specs.Refusals.{IsRefusal};
-ghost use Rattle.tp_journal.specs.Whole.{HoldsRecord};
+ghost use Rattle.tp_recovery.specs.Recovery.{HasTail, Recovers};
+ghost use Rattle.tp_recovery.specs.Refusals.{IsJournalFault};
+ghost use Rattle.tp_recovery.specs.Whole.{HoldsRecord};
 ghost use Rattle.tp_peer.specs.Appending.{journal_state};
 ghost use Rattle.tp_peer.specs.Opening.{Reopens};
-ghost use Rattle.tp_peer.specs.PeerData.{opened};
+ghost use Rattle.tp_peer.specs.PeerState.{opened_peer};
 ghost use Rattle.tp_peer.specs.declared.error.PeerError.TheVariants.{OutOfMemory, Store};
-ghost use Rattle.tp_store.specs.Gives.{Gives};
+ghost use Rattle.tp_codec.specs.Gives.{Gives};
 ghost use Rattle.tp_store.specs.Loading as loading;
 ghost use Rattle.tp_store.specs.Saved.{IsSaved};
 ghost use Rattle.tp_store.specs.declared.error.StoreError.TheVariants.{Damaged, OutOfMemory as Lack};
-ghost use Rattle.tp_editor.specs.EditorState.{alone};
-ghost use Rattle.tp_editor.specs.Opening.{Begins, CutsRecord, NotBegun, NotOpened, NotOpenedOn, Opens};
+ghost use Rattle.tp_editor.specs.EditorState.{new_editor};
+ghost use Rattle.tp_editor.specs.Opening.{BeginsDocument, CutsRecord, RefusesNewDocument, RefusesOpening, RefusesOpeningOn, Opens};
 
 use crate::editor::Editor;
 use crate::error::EditorOpenError;
@@ -53,12 +53,12 @@ fn open_whole<J: Journal>(
     requires tail { IfOk recovery
         (λ r. HasTail (J.content journal) r.keep r.tail.items) }
     requires refused { IfErr recovery
-        (λ e. (e ≡ Lack) ⊎ IsRefusal (J.content journal) e) }
+        (λ e. (e ≡ Lack) ⊎ IsJournalFault (J.content journal) e) }
     ensures ok { IfOk result
         (λ p. Reopens (journal_state (J.content journal) (J.device journal)) actor p) }
     ensures whole { OnOk result (CutsRecord (J.content journal) → ⊥) }
     ensures err { IfErr result
-        (NotOpenedOn (journal_state (J.content journal) (J.device journal)) actor) }
+        (RefusesOpeningOn (journal_state (J.content journal) (J.device journal)) actor) }
 {
     match recovery {
         Ok(recovered) => match check_tail(alloc, &recovered) {
@@ -82,7 +82,7 @@ fn open_whole<J: Journal>(
 // A peer of the document, of which nothing waits, in memory alone.
 fn peer_of(alloc: Global, document: Document<PeerSequence>, actor: Actor) -> Peer<OptionalJournal>
     requires { document.waiting ≡ [] }
-    ensures { result ≡ opened document.id actor document.applied no_device }
+    ensures { result ≡ opened_peer document.id actor document.applied no_device }
 {
     let journal = OptionalJournal::none(&document);
     Peer::new(alloc, journal, document, actor)
@@ -91,7 +91,7 @@ fn peer_of(alloc: Global, document: Document<PeerSequence>, actor: Actor) -> Pee
 impl Editor<OptionalJournal> {
     /// An editor of a document with no changes, in memory alone, without links and with an empty answer. No memory.
     pub fn new(alloc: Global, id: DocId, actor: Actor) -> Editor<OptionalJournal>
-        ensures { result ≡ alone (opened id actor [] no_device) }
+        ensures { result ≡ new_editor (opened_peer id actor [] no_device) }
     {
         Editor::of(alloc, peer_of(alloc, Document::new(alloc, id), actor))
     }
@@ -101,9 +101,9 @@ impl Editor<OptionalJournal> {
     /// stays as it is. The links and a session are gone then; the actor and the answer stay.
     pub fn load(&mut self, bytes: &[u8]) -> Result<(), StoreError>
         ensures found { OnOk result (IsSaved bytes.now self.new.peer.id self.new.peer.applied) }
-        ensures exact { Gives (λ _. (self.new.peer.id, self.new.peer.applied)) result
-            (loading.loaded bytes.now) }
-        ensures fresh { OnOk result (self.new ≡ record (alone (opened self.new.peer.id
+        ensures exact { Gives Lack (λ _. (self.new.peer.id, self.new.peer.applied)) result
+            (loading.document_of_bytes bytes.now) }
+        ensures fresh { OnOk result (self.new ≡ record (new_editor (opened_peer self.new.peer.id
             self.old.peer.actor self.new.peer.applied no_device)) { answer = self.old.answer }) }
         ensures err { OnErr result (self.new ≡ self.old) }
     {
@@ -125,7 +125,7 @@ impl Editor<OptionalJournal> {
     /// The only refusal is `OutOfMemory`.
     pub fn fork(&self, actor: Actor) -> Result<Editor<OptionalJournal>, DocError>
         ensures ok { IfOk result (λ e. e
-            ≡ alone (opened self.now.peer.id actor self.now.peer.applied no_device)) }
+            ≡ new_editor (opened_peer self.now.peer.id actor self.now.peer.applied no_device)) }
         ensures err { IsOkUnless result doc.OutOfMemory }
     {
         let document = self.document().fork()?;
@@ -144,7 +144,7 @@ impl Editor<OptionalJournal> {
         actor: Actor,
     ) -> Result<Editor<OptionalJournal>, EditorOpenError>
         ensures ok { IfOk result (λ e. Opens actor e) }
-        ensures err { IfErr result (λ e. NotOpened actor e) }
+        ensures err { IfErr result (λ e. RefusesOpening actor e) }
     {
         match DurableJournal::recovering(&SystemFiles, alloc, path, false) {
             Ok((journal, recovery)) => {
@@ -169,8 +169,8 @@ impl Editor<OptionalJournal> {
         id: DocId,
         actor: Actor,
     ) -> Result<Editor<OptionalJournal>, EditorOpenError>
-        ensures ok { IfOk result (λ e. Begins id actor e) }
-        ensures err { IfErr result (λ e. NotBegun id e) }
+        ensures ok { IfOk result (λ e. BeginsDocument id actor e) }
+        ensures err { IfErr result (λ e. RefusesNewDocument id e) }
     {
         match DurableJournal::recovering(&SystemFiles, alloc, path, true) {
             Ok((journal, recovered)) => {

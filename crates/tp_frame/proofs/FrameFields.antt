@@ -11,8 +11,8 @@ use Rattle.tp_frame.specs.declared.frame.Frame.TheVariants.{Hello, Sync, Done, R
 use Rattle.tp_frame.specs.declared.reading.Head.{Head}
 use Rattle.tp_frame.specs.declared.reading.NoFrame.{NoFrame}
 use Rattle.tp_frame.specs.declared.reading.NoFrame.TheVariants.{Missing, Fault}
-use Rattle.tp_frame.specs.Frame.{Body, body_of, body_len, spelling_of_body, spelling, IsTyped, IsFrame}
-use Rattle.tp_frame.specs.Reading.{head_at, body_at, hello_of, done_of, refusal_of, frame_behind, judged, frame_at}
+use Rattle.tp_frame.specs.Frame.{Body, body_of, body_len, spelling_of_body, frame_spelling, IsTypedFrame, IsFrame}
+use Rattle.tp_frame.specs.Reading.{head_at, body_at, hello_of, done_of, refusal_frame_of, frame_after, frame_or_fault, frame_at}
 
 -- ---- the head
 
@@ -23,9 +23,9 @@ headed kind len = record { kind = kind; len = len }
 abbrev pub spelling_of_head : Head → List ℕ
 spelling_of_head h = to_be_bytes w32 (h.len + 1) ++ h.kind ∷ []
 
--- what stands behind the length
-abbrev kind_behind : ℕ → Reads NoFrame Head
-kind_behind len = and_then (or_fail Missing byte_at) (λ kind. and_then (require (ltb kind 4) (Fault BadKind)) (λ _. give (headed kind (len - 1))))
+-- what is after the length
+abbrev kind_after : ℕ → Reads NoFrame Head
+kind_after len = and_then (or_fail Missing byte_at) (λ kind. and_then (require (ltb kind 4) (Fault BadKind)) (λ _. give (headed kind (len - 1))))
 
 abbrev spell_kind : Head → List ℕ
 spell_kind h = (h.kind ∷ []) ++ []
@@ -33,7 +33,7 @@ spell_kind h = (h.kind ∷ []) ++ []
 abbrev KindFits : ℕ → Head → Type 0
 KindFits len h = (h.kind < 256) × ((ltb h.kind 4 ≡ true) × (h ≡ headed h.kind (len - 1)))
 
-kind_field : (len : ℕ) → IsField Missing (kind_behind len) spell_kind (KindFits len)
+kind_field : (len : ℕ) → IsField Missing (kind_after len) spell_kind (KindFits len)
 kind_field len =
     then_field Missing (or_fail Missing byte_at) (λ kind. and_then (require (ltb kind 4) (Fault BadKind)) (λ _. give (headed kind (len - 1)))) (λ b. b ∷ []) (λ b. b < 256)
     (λ (h : Head). h.kind) (λ _. []) (λ kind h. (ltb kind 4 ≡ true) × (h ≡ headed kind (len - 1)))
@@ -68,11 +68,11 @@ unfolding head_at
 head_field =
     as_field Missing head_at (λ h. to_be_bytes w32 (h.len + 1) ++ spell_kind h) spelling_of_head (λ h. (h.len + 1 < 2 ^ 32) × LenFits (h.len + 1) h) IsHead
     (then_field Missing (or_fail Missing (number_at w32))
-    (λ len. and_then (require (leb len 16777216) (Fault TooLong)) (λ _. and_then (require (leb 1 len) (Fault BadKind)) (λ _. kind_behind len)))
+    (λ len. and_then (require (leb len 16777216) (Fault TooLong)) (λ _. and_then (require (leb 1 len) (Fault BadKind)) (λ _. kind_after len)))
     (to_be_bytes w32) (λ n. n < 2 ^ 32) (λ (h : Head). h.len + 1) spell_kind LenFits
     (number_field Missing w32 (2 ^ 32) wide32)
-    (λ len lt. require_field Missing (leb len 16777216) (Fault TooLong) (and_then (require (leb 1 len) (Fault BadKind)) (λ _. kind_behind len)) spell_kind (λ h. (leb 1 len ≡ true) × KindFits len h)
-    (λ _. require_field Missing (leb 1 len) (Fault BadKind) (kind_behind len) spell_kind (KindFits len) (λ _. kind_field len)))
+    (λ len lt. require_field Missing (leb len 16777216) (Fault TooLong) (and_then (require (leb 1 len) (Fault BadKind)) (λ _. kind_after len)) spell_kind (λ h. (leb 1 len ≡ true) × KindFits len h)
+    (λ _. require_field Missing (leb 1 len) (Fault BadKind) (kind_after len) spell_kind (KindFits len) (λ _. kind_field len)))
     len_is)
     (λ h fit. refl)
     (λ h fit. head_is h fit.1)
@@ -87,9 +87,9 @@ made kind content = record { kind = kind; content = content }
 abbrev head_of : Body → Head
 head_of b = headed b.kind (length b.content)
 
--- what stands behind the head
-abbrev content_behind : Head → Reads NoFrame Body
-content_behind h = and_then (or_fail Missing (bytes_at h.len)) (λ content. give (made h.kind content))
+-- what is after the head
+abbrev content_after : Head → Reads NoFrame Body
+content_after h = and_then (or_fail Missing (bytes_at h.len)) (λ content. give (made h.kind content))
 
 abbrev spell_content : Body → List ℕ
 spell_content b = b.content ++ []
@@ -97,7 +97,7 @@ spell_content b = b.content ++ []
 abbrev ContentFits : Head → Body → Type 0
 ContentFits h b = AreSoMany h.len b.content × (b ≡ made h.kind b.content)
 
-content_field : (h : Head) → IsField Missing (content_behind h) spell_content (ContentFits h)
+content_field : (h : Head) → IsField Missing (content_after h) spell_content (ContentFits h)
 content_field h =
     then_field Missing (or_fail Missing (bytes_at h.len)) (λ content. give (made h.kind content)) (λ c. c) (AreSoMany h.len)
     (λ (b : Body). b.content) (λ _. []) (λ content b. b ≡ made h.kind content)
@@ -120,78 +120,78 @@ pub body_field : IsField Missing body_at spelling_of_body IsBody
 unfolding body_at
 body_field =
     as_field Missing body_at (λ b. spelling_of_head (head_of b) ++ spell_content b) spelling_of_body (λ b. IsHead (head_of b) × ContentFits (head_of b) b) IsBody
-    (then_field Missing head_at content_behind spelling_of_head IsHead head_of spell_content ContentFits head_field (λ h fit. content_field h) head_of_content)
+    (then_field Missing head_at content_after spelling_of_head IsHead head_of spell_content ContentFits head_field (λ h fit. content_field h) head_of_content)
     (λ b fit. ap (λ (c : List ℕ). spelling_of_head (head_of b) ++ c) (append-nil b.content) ∙ append_assoc (to_be_bytes w32 (body_len b)) (b.kind ∷ []) b.content)
     (λ b fit. record { kind = fit.0.kind; content = fit.1.0.each; size = fit.0.size })
     (λ b is. (record { kind = is.kind; size = is.size }, (record { count = refl; each = is.content }, refl)))
 
 -- ---- the frame
 
-judged_field : (r : Result Frame FrameError) → IsField Missing (judged r) (λ _. []) (λ f. r ≡ Ok f)
-unfolding judged
+judged_field : (r : Result Frame FrameError) → IsField Missing (frame_or_fault r) (λ _. []) (λ f. r ≡ Ok f)
+unfolding frame_or_fault
 judged_field (Ok g) =
     as_field Missing (give g) (λ _. []) (λ _. []) (λ f. f ≡ g) (λ f. (let r : Result Frame FrameError = Ok g in r) ≡ Ok f) (give_field Missing g)
     (λ f fit. refl) (λ f fit. ap (λ (x : Frame). Ok x) (sym fit)) (λ f fit. cc)
 judged_field (Err e) =
-    as_field Missing (judged (Err e)) (λ _. []) (λ _. []) (λ _. ⊥) (λ f. (let r : Result Frame FrameError = Err e in r) ≡ Ok f) (fail_field Missing (Fault e) (λ _. []))
+    as_field Missing (frame_or_fault (Err e)) (λ _. []) (λ _. []) (λ _. ⊥) (λ f. (let r : Result Frame FrameError = Err e in r) ≡ Ok f) (fail_field Missing (Fault e) (λ _. []))
     (λ f fit. refl) (λ f fit. absurd fit) (λ f fit. absurd cc)
 
--- A frame that stands behind a kind has that kind and content, and is typed where the content is bytes.
+-- A frame that is after a kind has that kind and content, and is typed where the content is bytes.
 abbrev pub StandsBehind : ℕ → List ℕ → Frame → Type 0
-StandsBehind kind content f = (body_of f ≡ made kind content) × (AreBytes content → IsTyped f)
+StandsBehind kind content f = (body_of f ≡ made kind content) × (AreBytes content → IsTypedFrame f)
 
 is_ok_of : (kind : ℕ) (content : List ℕ) (g f : Frame) → (let r : Result Frame FrameError = Ok g in r) ≡ Ok f → StandsBehind kind content g → StandsBehind kind content f
 is_ok_of kind content g f e s = let same : g ≡ f = cc in subst (StandsBehind kind content) same s
 
-hello_stands : (content : List ℕ) (f : Frame) → hello_of content ≡ Ok f → StandsBehind 0 content f
-hello_stands [] f e = absurd cc
-hello_stands (version ∷ id) f e = by_test (eqb (length id) 16) refl e
+hello_present : (content : List ℕ) (f : Frame) → hello_of content ≡ Ok f → StandsBehind 0 content f
+hello_present [] f e = absurd cc
+hello_present (version ∷ id) f e = by_test (eqb (length id) 16) refl e
   where
     by_test : (test : Bool) → eqb (length id) 16 ≡ test → (let r : Result Frame FrameError = cond test (Ok (Hello version (record { 0 = id }))) (Err BadHello) in r) ≡ Ok f → StandsBehind 0 (version ∷ id) f
     by_test true t e = is_ok_of 0 (version ∷ id) (Hello version (record { 0 = id })) f e (refl, λ fits. (fits 0, eqb-true _ _ t, AreBytes-rest (version ∷ []) (version ∷ id) id refl fits))
     by_test false t e = absurd cc
 
-done_stands : (content : List ℕ) (f : Frame) → done_of content ≡ Ok f → StandsBehind 2 content f
-done_stands [] f e = is_ok_of 2 [] Done f e (refl, λ fits. tt)
-done_stands (b ∷ bytes) f e = absurd cc
+done_present : (content : List ℕ) (f : Frame) → done_of content ≡ Ok f → StandsBehind 2 content f
+done_present [] f e = is_ok_of 2 [] Done f e (refl, λ fits. tt)
+done_present (b ∷ bytes) f e = absurd cc
 
-refusal_stands : (content : List ℕ) (f : Frame) → refusal_of content ≡ Ok f → StandsBehind 3 content f
-refusal_stands [] f e = absurd cc
-refusal_stands (code ∷ []) f e = is_ok_of 3 (code ∷ []) (Refusal code) f e (refl, λ fits. fits 0)
-refusal_stands (code ∷ b ∷ bytes) f e = absurd cc
+refusal_present : (content : List ℕ) (f : Frame) → refusal_frame_of content ≡ Ok f → StandsBehind 3 content f
+refusal_present [] f e = absurd cc
+refusal_present (code ∷ []) f e = is_ok_of 3 (code ∷ []) (Refusal code) f e (refl, λ fits. fits 0)
+refusal_present (code ∷ b ∷ bytes) f e = absurd cc
 
-pub stands : (kind : ℕ) (content : List ℕ) (f : Frame) → frame_behind kind content ≡ Ok f → StandsBehind kind content f
-stands zero content f e = hello_stands content f e
-stands (suc zero) content f e = is_ok_of 1 content (Sync content) f e (refl, λ fits. fits)
-stands (suc (suc zero)) content f e = done_stands content f e
-stands (suc (suc (suc zero))) content f e = refusal_stands content f e
-stands (suc (suc (suc (suc kind)))) content f e = absurd cc
+pub present : (kind : ℕ) (content : List ℕ) (f : Frame) → frame_after kind content ≡ Ok f → StandsBehind kind content f
+present zero content f e = hello_present content f e
+present (suc zero) content f e = is_ok_of 1 content (Sync content) f e (refl, λ fits. fits)
+present (suc (suc zero)) content f e = done_present content f e
+present (suc (suc (suc zero))) content f e = refusal_present content f e
+present (suc (suc (suc (suc kind)))) content f e = absurd cc
 
--- a frame stands behind its kind
-behind_own : (f : Frame) → IsTyped f → frame_behind (body_of f).kind (body_of f).content ≡ Ok f
-behind_own (Hello version id) typed = rw (eq-eqb (length id.0) 16 typed.1) refl
-behind_own (Sync bytes) typed = refl
-behind_own Done typed = refl
-behind_own (Refusal code) typed = refl
+-- a frame is after its kind
+after_own : (f : Frame) → IsTypedFrame f → frame_after (body_of f).kind (body_of f).content ≡ Ok f
+after_own (Hello version id) typed = rw (eq-eqb (length id.0) 16 typed.1) refl
+after_own (Sync bytes) typed = refl
+after_own Done typed = refl
+after_own (Refusal code) typed = refl
 
 no_bytes : AreBytes []
 no_bytes i = omega arith
 
-own_body : (f : Frame) → IsTyped f → body_len (body_of f) ≤ 16777216 → IsBody (body_of f)
+own_body : (f : Frame) → IsTypedFrame f → body_len (body_of f) ≤ 16777216 → IsBody (body_of f)
 own_body (Hello version id) typed size = record { kind = omega arith; content = AreBytes-cons version id.0 typed.0 typed.2; size = size }
 own_body (Sync bytes) typed size = record { kind = omega arith; content = typed; size = size }
 own_body Done typed size = record { kind = omega arith; content = no_bytes; size = size }
 own_body (Refusal code) typed size = record { kind = omega arith; content = AreBytes-cons code [] typed no_bytes; size = size }
 
-pub frame_field : IsField Missing frame_at spelling IsFrame
-unfolding frame_at spelling
+pub frame_field : IsField Missing frame_at frame_spelling IsFrame
+unfolding frame_at frame_spelling
 frame_field =
-    as_field Missing frame_at (λ f. spelling_of_body (body_of f) ++ []) spelling (λ f. IsBody (body_of f) × (frame_behind (body_of f).kind (body_of f).content ≡ Ok f)) IsFrame
-    (then_field Missing body_at (λ body. judged (frame_behind body.kind body.content)) spelling_of_body IsBody
-    body_of (λ _. []) (λ body f. frame_behind body.kind body.content ≡ Ok f)
+    as_field Missing frame_at (λ f. spelling_of_body (body_of f) ++ []) frame_spelling (λ f. IsBody (body_of f) × (frame_after (body_of f).kind (body_of f).content ≡ Ok f)) IsFrame
+    (then_field Missing body_at (λ body. frame_or_fault (frame_after body.kind body.content)) spelling_of_body IsBody
+    body_of (λ _. []) (λ body f. frame_after body.kind body.content ≡ Ok f)
     body_field
-    (λ body fit. judged_field (frame_behind body.kind body.content))
-    (λ body f e. (stands body.kind body.content f e).0))
+    (λ body fit. judged_field (frame_after body.kind body.content))
+    (λ body f e. (present body.kind body.content f e).0))
     (λ f fit. append-nil (spelling_of_body (body_of f)))
-    (λ f fit. record { typed = (stands (body_of f).kind (body_of f).content f fit.1).1 fit.0.content; size = fit.0.size })
-    (λ f is. (own_body f is.typed is.size, behind_own f is.typed))
+    (λ f fit. record { typed = (present (body_of f).kind (body_of f).content f fit.1).1 fit.0.content; size = fit.0.size })
+    (λ f is. (own_body f is.typed is.size, after_own f is.typed))

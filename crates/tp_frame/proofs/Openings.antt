@@ -5,7 +5,7 @@ use Rattle.std.proofs.lemmas.Bool.{cases_lt}
 use Rattle.std.proofs.lemmas.List.{drop_at, length-take-le, length-drop}
 use Rattle.std.proofs.lemmas.Option.{slice_get_within}
 use Rattle.tp_codec.specs.Prefix.{byte_at, bytes_at, number_at}
-use Rattle.tp_codec.specs.Reading.{Reads, and_next, and_then, found_or, or_fail, passed, require, give}
+use Rattle.tp_codec.specs.Reading.{Reads, and_next, and_then, found_or, or_fail, pass_or_fail, require, give}
 use Rattle.tp_codec.proofs.Fields.{AreBytes, reads_more}
 use Rattle.tp_frame.specs.declared.error.FrameError.{FrameError}
 use Rattle.tp_frame.specs.declared.error.FrameError.TheVariants.{TooLong, BadKind, BadHello, OutOfMemory}
@@ -15,10 +15,10 @@ use Rattle.tp_frame.specs.declared.reading.Head.{Head}
 use Rattle.tp_frame.specs.declared.reading.NoFrame.{NoFrame}
 use Rattle.tp_frame.specs.declared.reading.NoFrame.TheVariants.{Missing, Fault}
 use Rattle.tp_frame.specs.Frame.{Body, body_of}
-use Rattle.tp_frame.specs.Openings.{right_len, fault_of, IsOther, IsDue}
+use Rattle.tp_frame.specs.Openings.{right_len, fault_of, IsNotSync, IsDue}
 use Rattle.tp_frame.specs.Parts.{HasSyncKind}
-use Rattle.tp_frame.specs.Reading.{head_at, body_at, frame_behind, frame_at, IsRest, ShowsFault}
-use Rattle.tp_frame.proofs.FrameFields.{spelling_of_head, IsHead, head_field, made, stands}
+use Rattle.tp_frame.specs.Reading.{head_at, body_at, frame_after, frame_at, IsUnfinishedFrame, ShowsFault}
+use Rattle.tp_frame.proofs.FrameFields.{spelling_of_head, IsHead, head_field, made, present}
 use Rattle.tp_frame.proofs.StreamLaws.{fault_stays}
 use Rattle.tp_frame.proofs.FrontSteps.{none_is, other_front, fault_is}
 
@@ -55,15 +55,15 @@ short_content n rest d e =
       | inr le ↦ absurd (let long = content_long n rest le in cc)
     ]
 
-pub waits_behind : (bytes : List ℕ) (h : Head) (rest : List ℕ) → head_at bytes ≡ Ok (h, rest) → length rest < h.len → IsRest bytes
-waits_behind bytes h rest e lt = none_is bytes Missing (body_missing bytes h rest Missing e (content_short h.len rest lt))
+pub waits_after : (bytes : List ℕ) (h : Head) (rest : List ℕ) → head_at bytes ≡ Ok (h, rest) → length rest < h.len → IsUnfinishedFrame bytes
+waits_after bytes h rest e lt = none_is bytes Missing (body_missing bytes h rest Missing e (content_short h.len rest lt))
 
 pub missing_apart : (d : NoFrame) → d ≡ Missing → d ≡ Fault OutOfMemory → ⊥
 missing_apart d missing fault = let same : Missing ≡ Fault OutOfMemory = sym missing ∙ fault in cc
 
 -- ---- frames of a wrong length
 
-hello_wrong : (content : List ℕ) → (length content ≡ 17 → ⊥) → frame_behind 0 content ≡ Err BadHello
+hello_wrong : (content : List ℕ) → (length content ≡ 17 → ⊥) → frame_after 0 content ≡ Err BadHello
 hello_wrong [] apart = refl
 hello_wrong (version ∷ id) apart = by_test (eqb (length id) 16) refl
   where
@@ -71,16 +71,16 @@ hello_wrong (version ∷ id) apart = by_test (eqb (length id) 16) refl
     by_test true t = absurd (apart (ap suc (eqb-true _ _ t)))
     by_test false t = refl
 
-done_wrong : (content : List ℕ) → (length content ≡ 0 → ⊥) → frame_behind 2 content ≡ Err BadKind
+done_wrong : (content : List ℕ) → (length content ≡ 0 → ⊥) → frame_after 2 content ≡ Err BadKind
 done_wrong [] apart = absurd (apart refl)
 done_wrong (b ∷ bytes) apart = refl
 
-refusal_wrong : (content : List ℕ) → (length content ≡ 1 → ⊥) → frame_behind 3 content ≡ Err BadKind
+refusal_wrong : (content : List ℕ) → (length content ≡ 1 → ⊥) → frame_after 3 content ≡ Err BadKind
 refusal_wrong [] apart = refl
 refusal_wrong (code ∷ []) apart = absurd (apart refl)
 refusal_wrong (code ∷ b ∷ bytes) apart = refl
 
-wrong_len : (kind : ℕ) (content : List ℕ) → (kind ≡ 1 → ⊥) → (length content ≡ right_len kind → ⊥) → frame_behind kind content ≡ Err (fault_of kind)
+wrong_len : (kind : ℕ) (content : List ℕ) → (kind ≡ 1 → ⊥) → (length content ≡ right_len kind → ⊥) → frame_after kind content ≡ Err (fault_of kind)
 wrong_len zero content other apart = hello_wrong content apart
 wrong_len (suc zero) content other apart = absurd (other refl)
 wrong_len (suc (suc zero)) content other apart = done_wrong content apart
@@ -91,17 +91,17 @@ no_memory : (kind : ℕ) → fault_of kind ≡ OutOfMemory → ⊥
 no_memory zero e = cc
 no_memory (suc kind) e = cc
 
--- A frame of a wrong length has its fault once so many bytes came.
-shows_behind : (bytes : List ℕ) (h : Head) (rest : List ℕ) → head_at bytes ≡ Ok (h, rest) → (h.kind ≡ 1 → ⊥) → (h.len ≡ right_len h.kind → ⊥) → h.len ≤ length rest → ShowsFault bytes (fault_of h.kind)
-shows_behind bytes h rest e other apart le =
+-- A frame of a wrong length has its fault once as many bytes came as its length says.
+shows_after : (bytes : List ℕ) (h : Head) (rest : List ℕ) → head_at bytes ≡ Ok (h, rest) → (h.kind ≡ 1 → ⊥) → (h.len ≡ right_len h.kind → ⊥) → h.len ≤ length rest → ShowsFault bytes (fault_of h.kind)
+shows_after bytes h rest e other apart le =
     let body = body_there bytes h rest (take h.len rest) (drop h.len rest) e (content_long h.len rest le) in
     fault_is bytes (made h.kind (take h.len rest)) (drop h.len rest) (fault_of h.kind) body
     (wrong_len h.kind (take h.len rest) other (λ same. apart (sym (length-take-le h.len rest le) ∙ same)))
 
 pub wrong_is_due : (bytes : List ℕ) (h : Head) (rest : List ℕ) → AreBytes bytes → head_at bytes ≡ Ok (h, rest) → (h.kind ≡ 1 → ⊥) → (h.len ≡ right_len h.kind → ⊥) → IsDue bytes (h.len - length rest) (fault_of h.kind)
 wrong_is_due bytes h rest fits e other apart = record {
-  waits = λ more lt. waits_behind (bytes ++ more) h (rest ++ more) (with more) (omega (arith, length-append rest more));
-  shows = λ more le. shows_behind (bytes ++ more) h (rest ++ more) (with more) other apart (omega (arith, length-append rest more));
+  waits = λ more lt. waits_after (bytes ++ more) h (rest ++ more) (with more) (omega (arith, length-append rest more));
+  shows = λ more le. shows_after (bytes ++ more) h (rest ++ more) (with more) other apart (omega (arith, length-append rest more));
   memory = no_memory h.kind;
 }
   where
@@ -118,14 +118,14 @@ fault_is_due bytes d fits shows apart = record {
 
 -- ---- the other frames
 
-sync_apart : (kind : ℕ) (content : List ℕ) (f : Frame) → (kind ≡ 1 → ⊥) → body_of f ≡ made kind content → IsOther f
+sync_apart : (kind : ℕ) (content : List ℕ) (f : Frame) → (kind ≡ 1 → ⊥) → body_of f ≡ made kind content → IsNotSync f
 sync_apart kind content (Hello version id) other e = tt
 sync_apart kind content (Sync bytes) other e = other (sym (ap (λ (b : Body). b.kind) e))
 sync_apart kind content Done other e = tt
 sync_apart kind content (Refusal code) other e = tt
 
-pub other_is : (kind : ℕ) (content : List ℕ) (f : Frame) → (kind ≡ 1 → ⊥) → frame_behind kind content ≡ Ok f → IsOther f
-other_is kind content f other e = sync_apart kind content f other (stands kind content f e).0
+pub other_is : (kind : ℕ) (content : List ℕ) (f : Frame) → (kind ≡ 1 → ⊥) → frame_after kind content ≡ Ok f → IsNotSync f
+other_is kind content f other e = sync_apart kind content f other (present kind content f e).0
 
 content_len : (n : ℕ) (rest content back : List ℕ) → or_fail Missing (bytes_at n) rest ≡ Ok (content, back) → length content ≡ n
 content_len n rest content back e =
@@ -136,17 +136,17 @@ content_len n rest content back e =
     ]
 
 pub whole_is : (bytes : List ℕ) (h : Head) (rest content back : List ℕ) (f : Frame) → AreBytes bytes → head_at bytes ≡ Ok (h, rest) → or_fail Missing (bytes_at h.len) rest ≡ Ok (content, back) → (h.kind ≡ 1 → ⊥)
-    → frame_behind h.kind content ≡ Ok f → (5 + h.len ≤ length bytes) × (frame_at bytes ≡ Ok (f, drop (5 + h.len) bytes)) × IsOther f
-whole_is bytes h rest content back f fits e there other behind =
+    → frame_after h.kind content ≡ Ok f → (5 + h.len ≤ length bytes) × (frame_at bytes ≡ Ok (f, drop (5 + h.len) bytes)) × IsNotSync f
+whole_is bytes h rest content back f fits e there other beyond =
     let len = content_len h.len rest content back there in
-    let front = other_front bytes (made h.kind content) back f fits (body_there bytes h rest content back e there) behind in
+    let front = other_front bytes (made h.kind content) back f fits (body_there bytes h rest content back e there) beyond in
     let all = rw len at front in
-    (all.0, all.1, other_is h.kind content f other behind)
+    (all.0, all.1, other_is h.kind content f other beyond)
 
 -- ---- where bytes are missing
 
-by_kind : (test : Bool) (rest : List ℕ) (h : Head) → and_next (passed test (Fault BadKind) rest) (λ _. give {E = NoFrame} h) ≡ Err Missing → ⊥
-unfolding and_next passed give
+by_kind : (test : Bool) (rest : List ℕ) (h : Head) → and_next (pass_or_fail test (Fault BadKind) rest) (λ _. give {E = NoFrame} h) ≡ Err Missing → ⊥
+unfolding and_next pass_or_fail give
 by_kind true rest h e = cc
 by_kind false rest h e = cc
 
@@ -158,13 +158,13 @@ kind_short len (kind ∷ rest) e = absurd (by_kind (ltb kind 4) rest (record { k
 abbrev kinds : ℕ → Reads NoFrame Head
 kinds len = and_then (or_fail Missing byte_at) (λ kind. and_then (require (ltb kind 4) (Fault BadKind)) (λ _. give (record { kind = kind; len = len - 1 })))
 
-least_short : (test : Bool) (len : ℕ) (rest : List ℕ) → and_next (passed test (Fault BadKind) rest) (λ _. kinds len) ≡ Err Missing → length rest < 1
-unfolding and_next passed
+least_short : (test : Bool) (len : ℕ) (rest : List ℕ) → and_next (pass_or_fail test (Fault BadKind) rest) (λ _. kinds len) ≡ Err Missing → length rest < 1
+unfolding and_next pass_or_fail
 least_short true len rest e = kind_short len rest e
 least_short false len rest e = absurd cc
 
-most_short : (test : Bool) (len : ℕ) (rest : List ℕ) → and_next (passed test (Fault TooLong) rest) (λ _. and_then (require (leb 1 len) (Fault BadKind)) (λ _. kinds len)) ≡ Err Missing → length rest < 1
-unfolding and_next passed and_then require
+most_short : (test : Bool) (len : ℕ) (rest : List ℕ) → and_next (pass_or_fail test (Fault TooLong) rest) (λ _. and_then (require (leb 1 len) (Fault BadKind)) (λ _. kinds len)) ≡ Err Missing → length rest < 1
+unfolding and_next pass_or_fail and_then require
 most_short true len rest e = least_short (leb 1 len) len rest e
 most_short false len rest e = absurd cc
 

@@ -13,15 +13,15 @@ use Rattle.tp_frame.specs.declared.parts.Part.TheVariants.{Begin, Piece, End, Wh
 use Rattle.tp_frame.specs.declared.parts.Stage.{Stage}
 use Rattle.tp_frame.specs.declared.parts.Stage.TheVariants.{Front, Inside, Refused}
 use Rattle.tp_frame.specs.declared.reading.Head.{Head}
-use Rattle.tp_frame.specs.Openings.{IsOther, IsDue}
+use Rattle.tp_frame.specs.Openings.{IsNotSync, IsDue}
 use Rattle.tp_frame.specs.PartState.{PartState}
-use Rattle.tp_frame.specs.Parts.{Opened, Led, at_first, with_more, with_opened, IsInside, StandsIn, Stands, PartAnswers, InsideAnswers, JoinedFrom, Parts, PartStep, Fed, Gave, all_fed, all_given, PartsLead}
-use Rattle.tp_frame.specs.Reading.{head_at, frame_at, IsRest, ShowsFault}
-use Rattle.tp_frame.specs.Frame.{spelling}
+use Rattle.tp_frame.specs.Parts.{OpenedFrame, PartsBefore, at_first, with_more, with_opened, IsInside, StandsIn, IsPartStateOf, PartAnswers, InsideAnswers, JoinedFrom, Parts, PartStep, Fed, Gave, all_fed, all_given, PartsLead}
+use Rattle.tp_frame.specs.Reading.{head_at, frame_at, IsUnfinishedFrame, ShowsFault}
+use Rattle.tp_frame.specs.Frame.{frame_spelling}
 use Rattle.tp_frame.specs.Stream.{BeginsWith, Frames}
 use Rattle.tp_frame.proofs.FrameFields.{IsHead, head_field, frame_field, made}
 use Rattle.tp_frame.proofs.FrontSteps.{sync_read}
-use Rattle.tp_frame.proofs.Openings.{waits_behind, body_there, content_long}
+use Rattle.tp_frame.proofs.Openings.{waits_after, body_there, content_long}
 use Rattle.tp_frame.proofs.StreamLaws.{AreBytes-begin, begins_on, fault_stays}
 
 abbrev at : Stage → List ℕ → PartState
@@ -29,18 +29,18 @@ at stage held = record { stage = stage; held = held }
 
 -- ---- inside a sync frame
 
-head_came : (frame : Opened) (came : List ℕ) (left : ℕ) (held : List ℕ) → IsInside frame came left held → head_at came ≡ Ok (record { kind = 1; len = frame.len }, frame.given ++ held)
+head_came : (frame : OpenedFrame) (came : List ℕ) (left : ℕ) (held : List ℕ) → IsInside frame came left held → head_at came ≡ Ok (record { kind = 1; len = frame.len }, frame.given ++ held)
 head_came frame came left held is =
     let h : Head = record { kind = 1; len = frame.len } in
     let head : IsHead h = record { kind = omega arith; size = omega (arith, is.size) } in
     ap head_at (is.spelled ∙ sym (append_assoc (to_be_bytes w32 (frame.len + 1)) (1 ∷ []) (frame.given ++ held))) ∙ head_field.again h (frame.given ++ held) head
 
 -- Less than the whole frame came.
-pub inside_waits : (frame : Opened) (came : List ℕ) (left : ℕ) (held : List ℕ) → IsInside frame came left held → length held < left → IsRest came
-inside_waits frame came left held is lt = waits_behind came (record { kind = 1; len = frame.len }) (frame.given ++ held) (head_came frame came left held is) (omega (arith, is.count, length-append frame.given held))
+pub inside_waits : (frame : OpenedFrame) (came : List ℕ) (left : ℕ) (held : List ℕ) → IsInside frame came left held → length held < left → IsUnfinishedFrame came
+inside_waits frame came left held is lt = waits_after came (record { kind = 1; len = frame.len }) (frame.given ++ held) (head_came frame came left held is) (omega (arith, is.count, length-append frame.given held))
 
 -- All of the frame was given.
-pub inside_ends : (frame : Opened) (came held : List ℕ) → IsInside frame came 0 held → frame_at came ≡ Ok (Sync frame.given, held)
+pub inside_ends : (frame : OpenedFrame) (came held : List ℕ) → IsInside frame came 0 held → frame_at came ≡ Ok (Sync frame.given, held)
 inside_ends frame came held is =
     let count : length frame.given ≡ frame.len = omega (arith, is.count) in
     let there = content_long frame.len (frame.given ++ held) (omega (arith, length-append frame.given held)) in
@@ -48,14 +48,14 @@ inside_ends frame came held is =
     sync_read came (made 1 frame.given) held (body_there came (record { kind = 1; len = frame.len }) (frame.given ++ held) frame.given held (head_came frame came 0 held is) exact) refl
 
 -- The whole frame came.
-pub inside_there : (frame : Opened) (came : List ℕ) (left : ℕ) (held : List ℕ) → IsInside frame came left held → left ≤ length held → (body : List ℕ) × (rest : List ℕ) × (frame_at came ≡ Ok (Sync body, rest))
+pub inside_there : (frame : OpenedFrame) (came : List ℕ) (left : ℕ) (held : List ℕ) → IsInside frame came left held → left ≤ length held → (body : List ℕ) × (rest : List ℕ) × (frame_at came ≡ Ok (Sync body, rest))
 inside_there frame came left held is le =
     let all = frame.given ++ held in
     let body = take frame.len all in let rest = drop frame.len all in
     let there = content_long frame.len all (omega (arith, is.count, length-append frame.given held)) in
     (body, rest, sync_read came (made 1 body) rest (body_there came (record { kind = 1; len = frame.len }) all body rest (head_came frame came left held is) there) refl)
 
-inside_given : (frame : Opened) (came : List ℕ) (left : ℕ) (bytes rest : List ℕ) → IsInside frame came left (bytes ++ rest) → length bytes ≤ left → IsInside (record { len = frame.len; given = frame.given ++ bytes }) came (left - length bytes) rest
+inside_given : (frame : OpenedFrame) (came : List ℕ) (left : ℕ) (bytes rest : List ℕ) → IsInside frame came left (bytes ++ rest) → length bytes ≤ left → IsInside (record { len = frame.len; given = frame.given ++ bytes }) came (left - length bytes) rest
 inside_given frame came left bytes rest is le = record {
   spelled = is.spelled ∙ ap (λ (b : List ℕ). to_be_bytes w32 (frame.len + 1) ++ 1 ∷ b) (sym (append_assoc frame.given bytes rest));
   count = omega (arith, is.count, length-append frame.given bytes);
@@ -65,7 +65,7 @@ inside_given frame came left bytes rest is le = record {
 -- ---- a part is given
 
 -- inside a sync frame
-answers_inside : (led : Led) (frame : Opened) (left : ℕ) (held : List ℕ) (r : Result (Option Part) FrameError) (s : PartState) → led.opened ≡ Some frame → IsInside frame led.came left held → InsideAnswers left held r s → PartAnswers led r s
+answers_inside : (led : PartsBefore) (frame : OpenedFrame) (left : ℕ) (held : List ℕ) (r : Result (Option Part) FrameError) (s : PartState) → led.opened ≡ Some frame → IsInside frame led.came left held → InsideAnswers left held r s → PartAnswers led r s
 answers_inside led frame left held (Ok (Some (Begin len))) s opened is answers = absurd answers
 answers_inside led frame left held (Ok (Some (Piece bytes))) s opened is answers =
     let after = with_opened led frame.len (frame.given ++ bytes) in
@@ -77,21 +77,21 @@ answers_inside led frame left held (Ok (Some (Piece bytes))) s opened is answers
     ends_or_all (inr none) = inr none
 answers_inside led frame left held (Ok (Some End)) s opened is answers =
     let ended = inside_ends frame led.came held (subst (λ (n : ℕ). IsInside frame led.came n held) answers.0 is) in
-    (record { came = held; opened = None }, (frame, opened, omega (arith, is.count, answers.0), ended, refl), subst (λ (t : PartState). Stands (record { came = held; opened = None }) t) (sym answers.1) refl, tt)
+    (record { came = held; opened = None }, (frame, opened, omega (arith, is.count, answers.0), ended, refl), subst (λ (t : PartState). IsPartStateOf (record { came = held; opened = None }) t) (sym answers.1) refl, tt)
 answers_inside led frame left held (Ok (Some (Whole f))) s opened is answers = absurd answers
 answers_inside led frame left held (Ok None) s opened is answers =
     let none : length held ≡ 0 = ap length answers.1 in
-    let stands : Stands led (at (Inside left) held) = subst (λ (o : Option Opened). StandsIn o led.came (Inside left) held) (sym opened) is in
-    (inside_waits frame led.came left held is (omega (arith, answers.0, none)), subst (λ (t : PartState). Stands led t) (sym answers.2) stands, subst (λ (t : PartState). length t.held ≤ 21) (sym answers.2) (omega (arith, none)))
+    let present : IsPartStateOf led (at (Inside left) held) = subst (λ (o : Option OpenedFrame). StandsIn o led.came (Inside left) held) (sym opened) is in
+    (inside_waits frame led.came left held is (omega (arith, answers.0, none)), subst (λ (t : PartState). IsPartStateOf led t) (sym answers.2) present, subst (λ (t : PartState). length t.held ≤ 21) (sym answers.2) (omega (arith, none)))
 answers_inside led frame left held (Err e) s opened is answers =
-    let stands : Stands led (at (Inside left) held) = subst (λ (o : Option Opened). StandsIn o led.came (Inside left) held) (sym opened) is in
+    let present : IsPartStateOf led (at (Inside left) held) = subst (λ (o : Option OpenedFrame). StandsIn o led.came (Inside left) held) (sym opened) is in
     subst (λ (d : FrameError). PartAnswers led (Err d) s) (sym answers.0)
-    (frame, opened, omega (arith, is.count, answers.1), subst (λ (t : PartState). Stands led t) (sym answers.2) stands)
+    (frame, opened, omega (arith, is.count, answers.1), subst (λ (t : PartState). IsPartStateOf led t) (sym answers.2) present)
 
-pub from_inside : (led : Led) (stage : Stage) (left : ℕ) (held : List ℕ) (r : Result (Option Part) FrameError) (s : PartState) → stage ≡ Inside left → Stands led (at stage held) → InsideAnswers left held r s → PartAnswers led r s
-from_inside led stage left held r s inside before answers = by_opened led.opened refl (subst (λ (t : Stage). Stands led (at t held)) inside before)
+pub from_inside : (led : PartsBefore) (stage : Stage) (left : ℕ) (held : List ℕ) (r : Result (Option Part) FrameError) (s : PartState) → stage ≡ Inside left → IsPartStateOf led (at stage held) → InsideAnswers left held r s → PartAnswers led r s
+from_inside led stage left held r s inside before answers = by_opened led.opened refl (subst (λ (t : Stage). IsPartStateOf led (at t held)) inside before)
   where
-    by_opened : (opened : Option Opened) → led.opened ≡ opened → StandsIn opened led.came (Inside left) held → PartAnswers led r s
+    by_opened : (opened : Option OpenedFrame) → led.opened ≡ opened → StandsIn opened led.came (Inside left) held → PartAnswers led r s
     by_opened None none never = absurd never
     by_opened (Some frame) some is = answers_inside led frame left held r s some is answers
 
@@ -106,7 +106,7 @@ from_due came zero e r due waits shows = subst (λ (a : Result (Option Part) Fra
     by_error OutOfMemory due = absurd (due.memory refl)
 from_due came (suc n) e r due waits shows =
     subst (λ (a : Result (Option Part) FrameError). PartAnswers (record { came = came; opened = None }) a (at (Refused (suc n) e) [])) (sym (waits (omega arith)))
-    (subst IsRest (append-nil came) (due.waits [] (omega arith)), (due, refl), omega arith)
+    (subst IsUnfinishedFrame (append-nil came) (due.waits [] (omega arith)), (due, refl), omega arith)
 
 -- ---- what is found at the front
 
@@ -116,15 +116,15 @@ begins held len found =
     (record { came = held; opened = Some (record { len = len; given = [] }) }, (refl, refl), record { spelled = found.2; count = omega arith; size = found.1 }, tt)
 
 -- Another frame is whole.
-pub gives_whole : (held : List ℕ) (f : Frame) (len : ℕ) → (len ≤ length held) × (frame_at held ≡ Ok (f, drop len held)) × IsOther f → PartAnswers (with_more at_first held) (Ok (Some (Whole f))) (at Front (drop len held))
+pub gives_whole : (held : List ℕ) (f : Frame) (len : ℕ) → (len ≤ length held) × (frame_at held ≡ Ok (f, drop len held)) × IsNotSync f → PartAnswers (with_more at_first held) (Ok (Some (Whole f))) (at Front (drop len held))
 gives_whole held f len found =
     (record { came = drop len held; opened = None }, (refl, found.2, found.1, refl), refl, tt)
 
-pub whole_given : (own items seen rest : List ℕ) (f : Frame) (len : ℕ) (stage : Stage) → items ≡ own → seen ≡ items → stage ≡ Front → rest ≡ drop len items → (len ≤ length seen) × (frame_at seen ≡ Ok (f, drop len seen)) × IsOther f
+pub whole_given : (own items seen rest : List ℕ) (f : Frame) (len : ℕ) (stage : Stage) → items ≡ own → seen ≡ items → stage ≡ Front → rest ≡ drop len items → (len ≤ length seen) × (frame_at seen ≡ Ok (f, drop len seen)) × IsNotSync f
     → PartAnswers (with_more at_first own) (Ok (Some (Whole f))) (at stage rest)
 whole_given own items seen rest f len stage own-is seen-is front rest-is found =
     let back : rest ≡ drop len own = rest-is ∙ ap (λ (b : List ℕ). drop len b) own-is in
-    let there = subst (λ (b : List ℕ). (len ≤ length b) × (frame_at b ≡ Ok (f, drop len b)) × IsOther f) (seen-is ∙ own-is) found in
+    let there = subst (λ (b : List ℕ). (len ≤ length b) × (frame_at b ≡ Ok (f, drop len b)) × IsNotSync f) (seen-is ∙ own-is) found in
     subst (λ (t : Stage). PartAnswers (with_more at_first own) (Ok (Some (Whole f))) (at t rest)) (sym front)
     (subst (λ (b : List ℕ). PartAnswers (with_more at_first own) (Ok (Some (Whole f))) (at Front b)) (sym back) (gives_whole own f len there))
 
@@ -136,44 +136,44 @@ refused_given own seen left e r s same due waits shows state =
 
 -- ---- the frames that parts make
 
-run_joins : (before : Led) (steps : List PartStep) (after : Led) → AreBytes (before.came ++ all_fed steps) → PartsLead before steps after
+run_joins : (before : PartsBefore) (steps : List PartStep) (after : PartsBefore) → AreBytes (before.came ++ all_fed steps) → PartsLead before steps after
     → (frames : List Frame) × JoinedFrom before.opened (all_given steps) frames after.opened × BeginsWith (before.came ++ all_fed steps) frames after.came
-run_joins before [] after fits leads = ([], ap (λ (l : Led). l.opened) leads, record { each = tt; spelled = append-nil before.came ∙ ap (λ (l : Led). l.came) leads })
+run_joins before [] after fits leads = ([], ap (λ (l : PartsBefore). l.opened) leads, record { each = tt; spelled = append-nil before.came ∙ ap (λ (l : PartsBefore). l.came) leads })
 run_joins before (Fed bytes ∷ steps) after fits leads =
     let same : (before.came ++ bytes) ++ all_fed steps ≡ before.came ++ (bytes ++ all_fed steps) = append_assoc before.came bytes (all_fed steps) in
     let r = run_joins (with_more before bytes) steps after (rw same fits) leads in
     (r.0, r.1, subst (λ (b : List ℕ). BeginsWith b r.0 after.came) same r.2)
 run_joins before (Gave (Begin len) ∷ steps) after fits leads =
-    let r = run_joins (with_opened before len []) steps after fits (subst (λ (l : Led). PartsLead l steps after) leads.1.1 leads.2) in
+    let r = run_joins (with_opened before len []) steps after fits (subst (λ (l : PartsBefore). PartsLead l steps after) leads.1.1 leads.2) in
     (r.0, (leads.1.0, r.1), r.2)
 run_joins before (Gave (Piece bytes) ∷ steps) after fits leads =
     let frame = leads.1.0 in
-    let r = run_joins (with_opened before frame.len (frame.given ++ bytes)) steps after fits (subst (λ (l : Led). PartsLead l steps after) leads.1.3 leads.2) in
+    let r = run_joins (with_opened before frame.len (frame.given ++ bytes)) steps after fits (subst (λ (l : PartsBefore). PartsLead l steps after) leads.1.3 leads.2) in
     (r.0, (frame, leads.1.1, leads.1.2, r.1), r.2)
 run_joins before (Gave End ∷ steps) after fits leads =
     let frame = leads.1.0 in let f : Frame = Sync frame.given in let rest = leads.0.came in
     let t = frame_field.takes before.came f rest (AreBytes-begin before.came (all_fed steps) fits) leads.1.3 in
-    let whole : before.came ++ all_fed steps ≡ spelling f ++ (rest ++ all_fed steps) = ap (λ (b : List ℕ). b ++ all_fed steps) t.0 ∙ append_assoc (spelling f) rest (all_fed steps) in
-    let r = run_joins leads.0 steps after (AreBytes-rest (spelling f) (before.came ++ all_fed steps) (rest ++ all_fed steps) whole fits) leads.2 in (
+    let whole : before.came ++ all_fed steps ≡ frame_spelling f ++ (rest ++ all_fed steps) = ap (λ (b : List ℕ). b ++ all_fed steps) t.0 ∙ append_assoc (frame_spelling f) rest (all_fed steps) in
+    let r = run_joins leads.0 steps after (AreBytes-rest (frame_spelling f) (before.came ++ all_fed steps) (rest ++ all_fed steps) whole fits) leads.2 in (
       f ∷ r.0,
-      (frame, leads.1.1, leads.1.2, refl, subst (λ (o : Option Opened). JoinedFrom o (all_given steps) r.0 after.opened) leads.1.4 r.1),
+      (frame, leads.1.1, leads.1.2, refl, subst (λ (o : Option OpenedFrame). JoinedFrom o (all_given steps) r.0 after.opened) leads.1.4 r.1),
       begins_on f (before.came ++ all_fed steps) (rest ++ all_fed steps) r.0 after.came t.1 whole r.2,
     )
 run_joins before (Gave (Whole f) ∷ steps) after fits leads =
     let rest = leads.0.came in
     let t = frame_field.takes before.came f rest (AreBytes-begin before.came (all_fed steps) fits) leads.1.2 in
-    let whole : before.came ++ all_fed steps ≡ spelling f ++ (rest ++ all_fed steps) = ap (λ (b : List ℕ). b ++ all_fed steps) t.0 ∙ append_assoc (spelling f) rest (all_fed steps) in
-    let r = run_joins leads.0 steps after (AreBytes-rest (spelling f) (before.came ++ all_fed steps) (rest ++ all_fed steps) whole fits) leads.2 in (
+    let whole : before.came ++ all_fed steps ≡ frame_spelling f ++ (rest ++ all_fed steps) = ap (λ (b : List ℕ). b ++ all_fed steps) t.0 ∙ append_assoc (frame_spelling f) rest (all_fed steps) in
+    let r = run_joins leads.0 steps after (AreBytes-rest (frame_spelling f) (before.came ++ all_fed steps) (rest ++ all_fed steps) whole fits) leads.2 in (
       f ∷ r.0,
-      (leads.1.0, leads.1.1, refl, subst (λ (o : Option Opened). JoinedFrom o (all_given steps) r.0 after.opened) leads.1.3 r.1),
+      (leads.1.0, leads.1.1, refl, subst (λ (o : Option OpenedFrame). JoinedFrom o (all_given steps) r.0 after.opened) leads.1.3 r.1),
       begins_on f (before.came ++ all_fed steps) (rest ++ all_fed steps) r.0 after.came t.1 whole r.2,
     )
 
-pub parts_begin : (steps : List PartStep) (led : Led) → AreBytes (all_fed steps) → PartsLead at_first steps led
+pub parts_begin : (steps : List PartStep) (led : PartsBefore) → AreBytes (all_fed steps) → PartsLead at_first steps led
     → (frames : List Frame) × Parts (all_given steps) frames led.opened × BeginsWith (all_fed steps) frames led.came
 parts_begin = run_joins at_first
 
-pub parts_all : (steps : List PartStep) (led : Led) → AreBytes (all_fed steps) → PartsLead at_first steps led → IsRest led.came
+pub parts_all : (steps : List PartStep) (led : PartsBefore) → AreBytes (all_fed steps) → PartsLead at_first steps led → IsUnfinishedFrame led.came
     → (frames : List Frame) × Parts (all_given steps) frames led.opened × Frames (all_fed steps) frames led.came
 parts_all steps led fits leads rest =
     let r = parts_begin steps led fits leads in
@@ -182,29 +182,29 @@ parts_all steps led fits leads rest =
 -- ---- a refusal stays
 
 -- What came of a sync frame shows no fault.
-inside_apart : (frame : Opened) (came : List ℕ) (left : ℕ) (held : List ℕ) (e : FrameError) → IsInside frame came left held → ShowsFault came e → ⊥
+inside_apart : (frame : OpenedFrame) (came : List ℕ) (left : ℕ) (held : List ℕ) (e : FrameError) → IsInside frame came left held → ShowsFault came e → ⊥
 inside_apart frame came left held e is shows =
     elim (cases_lt (length held) left) [
       | inl lt ↦ (let waits = inside_waits frame came left held is lt in cc)
       | inr le ↦ (let there = inside_there frame came left held is le in let read = there.2 in cc)
     ]
 
-opened_apart : (frame : Opened) (came : List ℕ) (stage : Stage) (held : List ℕ) (e : FrameError) → StandsIn (Some frame) came stage held → ShowsFault came e → ⊥
-opened_apart frame came Front held e stands shows = stands
-opened_apart frame came (Inside left) held e stands shows = inside_apart frame came left held e stands shows
-opened_apart frame came (Refused left d) held e stands shows = stands
+opened_apart : (frame : OpenedFrame) (came : List ℕ) (stage : Stage) (held : List ℕ) (e : FrameError) → StandsIn (Some frame) came stage held → ShowsFault came e → ⊥
+opened_apart frame came Front held e present shows = present
+opened_apart frame came (Inside left) held e present shows = inside_apart frame came left held e present shows
+opened_apart frame came (Refused left d) held e present shows = present
 
 same_fault : (came : List ℕ) (d e : FrameError) → ShowsFault came d → ShowsFault came e → (let r : Result (Option Part) FrameError = Err d in r) ≡ Err e
 same_fault came d e p q = let same : d ≡ e = cc in ap (λ (x : FrameError). Err x) same
 
-pub none_some : (o : Option Opened) (frame : Opened) → o ≡ None → o ≡ Some frame → ⊥
+pub none_some : (o : Option OpenedFrame) (frame : OpenedFrame) → o ≡ None → o ≡ Some frame → ⊥
 none_some o frame none some = cc
 
-again : (led : Led) (e : FrameError) (r : Result (Option Part) FrameError) (s : PartState) → led.opened ≡ None → ShowsFault led.came e → PartAnswers led r s → r ≡ Err e
+again : (led : PartsBefore) (e : FrameError) (r : Result (Option Part) FrameError) (s : PartState) → led.opened ≡ None → ShowsFault led.came e → PartAnswers led r s → r ≡ Err e
 again led e (Ok None) s none shows answers = absurd (let rest = answers.0 in cc)
 again led e (Ok (Some (Begin len))) s none shows answers =
-    let stands = subst (λ (l : Led). Stands l s) answers.1.1 answers.2 in
-    absurd (opened_apart (record { len = len; given = [] }) led.came s.stage s.held e stands shows)
+    let present = subst (λ (l : PartsBefore). IsPartStateOf l s) answers.1.1 answers.2 in
+    absurd (opened_apart (record { len = len; given = [] }) led.came s.stage s.held e present shows)
 again led e (Ok (Some (Piece bytes))) s none shows answers = absurd (none_some led.opened answers.1.0 none answers.1.1)
 again led e (Ok (Some End)) s none shows answers = absurd (none_some led.opened answers.1.0 none answers.1.1)
 again led e (Ok (Some (Whole f))) s none shows answers = absurd (let read = answers.1.2 in cc)
@@ -213,5 +213,5 @@ again led e (Err BadKind) s none shows answers = same_fault led.came BadKind e a
 again led e (Err BadHello) s none shows answers = same_fault led.came BadHello e answers.1 shows
 again led e (Err OutOfMemory) s none shows answers = absurd (none_some led.opened answers.0 none answers.1)
 
-pub refused_again : (led : Led) (more : List ℕ) (e : FrameError) (r : Result (Option Part) FrameError) (s : PartState) → AreBytes led.came → led.opened ≡ None → ShowsFault led.came e → PartAnswers (with_more led more) r s → r ≡ Err e
+pub refused_again : (led : PartsBefore) (more : List ℕ) (e : FrameError) (r : Result (Option Part) FrameError) (s : PartState) → AreBytes led.came → led.opened ≡ None → ShowsFault led.came e → PartAnswers (with_more led more) r s → r ≡ Err e
 refused_again led more e r s fits none shows answers = again (with_more led more) e r s none (fault_stays led.came more e fits shows) answers

@@ -5,7 +5,7 @@ use Rattle.tp_frame.specs.declared.limits.TheConstants.{MAX_BODY}
 use Rattle.tp_frame.specs.declared.frame.Frame.{Frame}
 use Rattle.tp_frame.specs.declared.frame.Frame.TheVariants.{Hello, Sync, Done, Refusal}
 
--- what a frame's length counts: a kind, and the bytes behind it
+-- what a frame's length counts: a kind, and the bytes after it
 pub record Body : Type 0 where
   pub kind : ℕ
   pub content : List ℕ
@@ -26,17 +26,17 @@ abbrev pub spelling_of_body : Body → List ℕ
 spelling_of_body b = to_be_bytes w32 (body_len b) ++ b.kind ∷ b.content
 
 -- the bytes of a frame
-unfoldable pub spelling : Frame → List ℕ
-spelling f = spelling_of_body (body_of f)
+unfoldable pub frame_spelling : Frame → List ℕ
+frame_spelling f = spelling_of_body (body_of f)
 
 -- What the types of a program say of a frame: numbers of a byte are below 256, and a document has 16 of them.
-abbrev pub IsTyped : Frame → Type 0
-IsTyped (Hello version id) = (version < 256) × (length id.0 ≡ 16) × ((i : ℕ) → slice_index id.0 i < 256)
-IsTyped (Sync bytes) = (i : ℕ) → slice_index bytes i < 256
-IsTyped Done = Unit {0}
-IsTyped (Refusal code) = code < 256
+abbrev pub IsTypedFrame : Frame → Type 0
+IsTypedFrame (Hello version id) = (version < 256) × (length id.0 ≡ 16) × ((i : ℕ) → slice_index id.0 i < 256)
+IsTypedFrame (Sync bytes) = (i : ℕ) → slice_index bytes i < 256
+IsTypedFrame Done = Unit {0}
+IsTypedFrame (Refusal code) = code < 256
 
 -- A frame within the limit: all that has a spelling.
 pub record IsFrame (f : Frame) : Type 0 where
-  pub typed : IsTyped f
+  pub typed : IsTypedFrame f
   pub size : body_len (body_of f) ≤ MAX_BODY

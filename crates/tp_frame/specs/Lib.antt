@@ -2,7 +2,6 @@ pub mod FrameError
 pub mod Frame
 pub mod Reading
 pub mod Openings
-pub mod Gives
 pub mod Stream
 pub mod PartState
 pub mod Parts

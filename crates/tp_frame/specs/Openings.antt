@@ -8,7 +8,7 @@ use Rattle.tp_frame.specs.declared.frame.Frame.{Frame}
 use Rattle.tp_frame.specs.declared.frame.Frame.TheVariants as frame_of
 use Rattle.tp_frame.specs.declared.reading.Opening.{Opening}
 use Rattle.tp_frame.specs.declared.reading.Opening.TheVariants.{Sync, Whole, Refused}
-use Rattle.tp_frame.specs.Reading.{frame_at, IsRest, ShowsFault}
+use Rattle.tp_frame.specs.Reading.{frame_at, IsUnfinishedFrame, ShowsFault}
 
 -- how many bytes come after a kind, but for a sync frame's
 abbrev pub right_len : ℕ → ℕ
@@ -23,21 +23,22 @@ fault_of zero = BadHello
 fault_of (suc kind) = BadKind
 
 -- a frame of another kind than sync
-abbrev pub IsOther : Frame → Type 0
-IsOther (frame_of.Hello version id) = Unit {0}
-IsOther (frame_of.Sync bytes) = ⊥
-IsOther frame_of.Done = Unit {0}
-IsOther (frame_of.Refusal code) = Unit {0}
+abbrev pub IsNotSync : Frame → Type 0
+IsNotSync (frame_of.Hello version id) = Unit {0}
+IsNotSync (frame_of.Sync bytes) = ⊥
+IsNotSync frame_of.Done = Unit {0}
+IsNotSync (frame_of.Refusal code) = Unit {0}
 
--- Whatever comes, so many bytes later the frame at the front has the fault, and before that more have to come.
+-- Whatever comes, once `left` more bytes are there the frame at the front has the fault, and before that more have to
+-- come.
 pub record IsDue (came : List ℕ) (left : ℕ) (e : FrameError) : Type 0 where
-  pub waits : (more : List ℕ) → length more < left → IsRest (came ++ more)
+  pub waits : (more : List ℕ) → length more < left → IsUnfinishedFrame (came ++ more)
   pub shows : (more : List ℕ) → left ≤ length more → ShowsFault (came ++ more) e
   pub memory : e ≡ OutOfMemory → ⊥
 
--- What stands at the front of the bytes: a sync frame of so many bytes after its kind, another frame that is whole, or
--- one that is refused once so many more bytes came.
+-- What is at the front of the bytes: a sync frame of `len` bytes after its kind, another frame that is whole, or
+-- one that is refused once `left` more bytes came.
 abbrev pub IsOpening : List ℕ → Opening → Type 0
 IsOpening bytes (Sync len) = (HEADER_LEN ≤ length bytes) × (len < MAX_BODY) × (bytes ≡ to_be_bytes w32 (len + 1) ++ 1 ∷ drop HEADER_LEN bytes)
-IsOpening bytes (Whole frame len) = (len ≤ length bytes) × (frame_at bytes ≡ Ok (frame, drop len bytes)) × IsOther frame
+IsOpening bytes (Whole frame len) = (len ≤ length bytes) × (frame_at bytes ≡ Ok (frame, drop len bytes)) × IsNotSync frame
 IsOpening bytes (Refused left e) = IsDue bytes left e

@@ -1,4 +1,4 @@
--- Reading the frame at the front of bytes: the frame and the bytes behind it, or the fault that shows, or that bytes
+-- Reading the frame at the front of bytes: the frame and the bytes after it, or the fault that shows, or that bytes
 -- are missing. The length is judged once it is whole, the kind once it is there, and all else once the body is whole.
 use Rattle.std.specs.Prelude.{◌≡◌, ℕ, zero, suc, ◌-◌, ◌==◌, nat_le, nat_lt, List, [], ◌∷◌, length, Result, Ok, Err, if◌then◌else◌}
 use Rattle.std.specs.Int.{w32}
@@ -42,42 +42,42 @@ done_of [] = Ok Done
 done_of (b ∷ bytes) = Err BadKind
 
 -- a code
-abbrev pub refusal_of : List ℕ → Result Frame FrameError
-refusal_of [] = Err BadKind
-refusal_of (code ∷ []) = Ok (Refusal code)
-refusal_of (code ∷ b ∷ bytes) = Err BadKind
+abbrev pub refusal_frame_of : List ℕ → Result Frame FrameError
+refusal_frame_of [] = Err BadKind
+refusal_frame_of (code ∷ []) = Ok (Refusal code)
+refusal_frame_of (code ∷ b ∷ bytes) = Err BadKind
 
--- what stands behind a kind, as a frame
-abbrev pub frame_behind : ℕ → List ℕ → Result Frame FrameError
-frame_behind zero content = hello_of content
-frame_behind (suc zero) content = Ok (Sync content)
-frame_behind (suc (suc zero)) content = done_of content
-frame_behind (suc (suc (suc zero))) content = refusal_of content
-frame_behind (suc (suc (suc (suc kind)))) content = Err BadKind
+-- what is after a kind, as a frame
+abbrev pub frame_after : ℕ → List ℕ → Result Frame FrameError
+frame_after zero content = hello_of content
+frame_after (suc zero) content = Ok (Sync content)
+frame_after (suc (suc zero)) content = done_of content
+frame_after (suc (suc (suc zero))) content = refusal_frame_of content
+frame_after (suc (suc (suc (suc kind)))) content = Err BadKind
 
 -- a frame that was judged
-unfoldable pub judged : Result Frame FrameError → Reads NoFrame Frame
-judged (Ok f) = give f
-judged (Err e) = fail (Fault e)
+unfoldable pub frame_or_fault : Result Frame FrameError → Reads NoFrame Frame
+frame_or_fault (Ok f) = give f
+frame_or_fault (Err e) = fail (Fault e)
 
 -- the frame at the front
 unfoldable pub frame_at : Reads NoFrame Frame
 frame_at = do
   body ← body_at
-  judged (frame_behind body.kind body.content)
+  frame_or_fault (frame_after body.kind body.content)
 
--- the bytes behind what was read; all, where no frame was
-abbrev pub behind_read : List ℕ → Result (Frame × List ℕ) NoFrame → List ℕ
-behind_read bytes (Ok front) = front.1
-behind_read bytes (Err e) = bytes
+-- the bytes after what was read; all, where no frame was
+abbrev pub after_read : List ℕ → Result (Frame × List ℕ) NoFrame → List ℕ
+after_read bytes (Ok front) = front.1
+after_read bytes (Err e) = bytes
 
--- the bytes behind the frame at the front
-abbrev pub behind_frame : List ℕ → List ℕ
-behind_frame bytes = behind_read bytes (frame_at bytes)
+-- the bytes after the frame at the front
+abbrev pub after_frame : List ℕ → List ℕ
+after_frame bytes = after_read bytes (frame_at bytes)
 
 -- The bytes are no whole frame, and show no fault: more have to come.
-abbrev pub IsRest : List ℕ → Type 0
-IsRest bytes = frame_at bytes ≡ Err Missing
+abbrev pub IsUnfinishedFrame : List ℕ → Type 0
+IsUnfinishedFrame bytes = frame_at bytes ≡ Err Missing
 
 -- The frame at the front has the fault, whatever comes.
 abbrev pub ShowsFault : List ℕ → FrameError → Type 0

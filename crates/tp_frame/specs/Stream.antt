@@ -5,25 +5,25 @@ use Rattle.tp_frame.specs.declared.error.FrameError.{FrameError}
 use Rattle.tp_frame.specs.declared.error.FrameError.TheVariants.{OutOfMemory}
 use Rattle.tp_frame.specs.declared.frame.Frame.{Frame}
 use Rattle.tp_frame.specs.declared.frame.Frame.TheVariants.{Sync}
-use Rattle.tp_frame.specs.Frame.{spelling, IsFrame}
-use Rattle.tp_frame.specs.Reading.{frame_at, IsRest, ShowsFault}
+use Rattle.tp_frame.specs.Frame.{frame_spelling, IsFrame}
+use Rattle.tp_frame.specs.Reading.{frame_at, IsUnfinishedFrame, ShowsFault}
 
--- The bytes begin with the frames, in order, and rest stands behind them.
+-- The bytes begin with the frames, in order, and rest is after them.
 pub record BeginsWith (bytes : List ℕ) (frames : List Frame) (rest : List ℕ) : Type 0 where
   pub each : AllByRecursion IsFrame frames
-  pub spelled : bytes ≡ flat_map spelling frames ++ rest
+  pub spelled : bytes ≡ flat_map frame_spelling frames ++ rest
 
 -- The bytes are the frames, in order, and then less than a whole frame.
 pub record Frames (bytes : List ℕ) (frames : List Frame) (rest : List ℕ) : Type 0 where
   pub begins : BeginsWith bytes frames rest
-  pub ends : IsRest rest
+  pub ends : IsUnfinishedFrame rest
 
 -- What was answered where the bytes were held, and what is held afterwards.
-abbrev pub Answers : List ℕ → Result (Option Frame) FrameError → List ℕ → Type 0
-Answers held (Ok (Some f)) rest = frame_at held ≡ Ok (f, rest)
-Answers held (Ok None) rest = IsRest held × (rest ≡ held)
-Answers held (Err OutOfMemory) rest = ((bytes : List ℕ) × (behind : List ℕ) × (frame_at held ≡ Ok (Sync bytes, behind))) × (rest ≡ held)
-Answers held (Err e) rest = ShowsFault held e × (rest ≡ held)
+abbrev pub NextFrame : List ℕ → Result (Option Frame) FrameError → List ℕ → Type 0
+NextFrame held (Ok (Some f)) rest = frame_at held ≡ Ok (f, rest)
+NextFrame held (Ok None) rest = IsUnfinishedFrame held × (rest ≡ held)
+NextFrame held (Err OutOfMemory) rest = ((bytes : List ℕ) × (beyond : List ℕ) × (frame_at held ≡ Ok (Sync bytes, beyond))) × (rest ≡ held)
+NextFrame held (Err e) rest = ShowsFault held e × (rest ≡ held)
 
 -- One call of a framer that changes what it holds: bytes are fed, or a frame is given.
 pub data Step : Type 0 where

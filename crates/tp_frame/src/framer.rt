@@ -2,8 +2,8 @@
 
 ghost use Rattle.std.specs.Prelude.{◌≡◌, [], ◌++◌, IfOk, IfSome, OnOk, OnErr, IsOkUnless};
 ghost use Rattle.tp_frame.specs.declared.error.FrameError.TheVariants.{OutOfMemory};
-ghost use Rattle.tp_frame.specs.Frame.{spelling, IsFrame};
-ghost use Rattle.tp_frame.specs.Stream.{Answers};
+ghost use Rattle.tp_frame.specs.Frame.{frame_spelling, IsFrame};
+ghost use Rattle.tp_frame.specs.Stream.{NextFrame};
 
 use crate::error::FrameError;
 use crate::frame::Frame;
@@ -14,8 +14,8 @@ use std::marker::Model;
 /// Takes a stream of bytes in whatever pieces it comes, and gives its frames: the parts of a
 /// [`PartFramer`](crate::PartFramer), joined.
 ///
-/// Contracts see the bytes that were fed and stand in no frame that was given. They are held, but for those of a frame
-/// that is refused, which are only counted. So much memory is kept and no more than what growing by doubling asks for: a
+/// Contracts see the bytes that were fed and are in no frame that was given. They are held, but for those of a frame
+/// that is refused, which are only counted. No more memory is kept for them than what growing by doubling asks for: a
 /// length takes none before its bytes are there.
 pub struct Framer {
     joiner: Joiner,
@@ -32,11 +32,11 @@ impl Model for Framer {
 
     ghost Value = { List ℕ };
 
-    ghost use Rattle.tp_frame.specs.Joining.{IsJoined};
+    ghost use Rattle.tp_frame.specs.Joining.{JoinerInvariant};
 
     ghost view = { λ f. f.joiner.came.bytes };
 
-    ghost invariant = { λ f. IsJoined f.joiner };
+    ghost invariant = { λ f. JoinerInvariant f.joiner };
 }
 
 impl Framer {
@@ -72,8 +72,8 @@ impl Framer {
     /// block, which is kept as long as they are. What is taken is a count of the block's owners.
     pub fn next(&mut self) -> Result<Option<Frame>, FrameError>
         ensures frame { IfOk result (λ next. IfSome next
-            (λ f. IsFrame f × (self.old ≡ spelling f ++ self.new))) }
-        ensures exact { Answers self.old result self.new }
+            (λ f. IsFrame f × (self.old ≡ frame_spelling f ++ self.new))) }
+        ensures exact { NextFrame self.old result self.new }
     {
         self.joiner.next()
     }

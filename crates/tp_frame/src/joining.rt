@@ -2,16 +2,17 @@
 
 ghost use Rattle.std.specs.Prelude.{◌≡◌, ◌++◌, [], length, List, ℕ, None, Some, OnOk, OnErr, IsOkUnless};
 ghost use Rattle.tp_frame.specs.declared.error.FrameError.TheVariants.{OutOfMemory};
-ghost use Rattle.tp_frame.specs.Joining.{with_given, IsJoined, BodyAnswers, EndAnswers};
-ghost use Rattle.tp_frame.specs.Parts.{Stands};
-ghost use Rattle.tp_frame.specs.Stream.{Answers};
+ghost use Rattle.tp_frame.specs.Joining.{with_given, JoinerInvariant, BodyAnswers, EndAnswers};
+ghost use Rattle.tp_frame.specs.Parts.{IsPartStateOf};
+ghost use Rattle.tp_frame.specs.Stream.{NextFrame};
 
 use crate::error::FrameError;
 use crate::frame::Frame;
-use crate::history::History;
+use crate::history::bytes_after_frame;
 use crate::parts::{Part, PartFramer};
 use bytes::Bytes;
 use std::alloc::Global;
+use tp_ghost::GhostBytes;
 
 /// Joins the parts of a stream to its frames.
 ///
@@ -22,40 +23,40 @@ pub(crate) struct Joiner {
     parts: PartFramer,
     // How many bytes come after the kind of the sync frame that has begun.
     begun: Option<u32>,
-    came: History,
+    came: GhostBytes,
 }
 
 impl Joiner {
     /// Nothing came. No memory.
     pub(crate) fn new(alloc: Global) -> Joiner
-        ensures joined { IsJoined result }
+        ensures joined { JoinerInvariant result }
         ensures came { result.came.bytes ≡ [] }
     {
         Joiner {
             parts: PartFramer::new(alloc),
             begun: None,
-            came: History::new(),
+            came: GhostBytes::none(),
         }
     }
 
     /// Takes the next bytes of the stream, or none of them.
     pub(crate) fn feed(&mut self, bytes: &[u8]) -> Result<(), FrameError>
-        requires { IsJoined self.old }
-        ensures joined { IsJoined self.new }
+        requires { JoinerInvariant self.old }
+        ensures joined { JoinerInvariant self.new }
         ensures ok { OnOk result (self.new.came.bytes ≡ self.old.came.bytes ++ bytes.now) }
         ensures err { OnErr result (self.new.came.bytes ≡ self.old.came.bytes) }
         ensures memory { IsOkUnless result OutOfMemory }
     {
         self.parts.feed(bytes)?;
-        self.came = History::with(&self.came, bytes);
+        self.came = GhostBytes::with(&self.came, bytes);
         Ok(())
     }
 
     /// The next frame.
     pub(crate) fn next(&mut self) -> Result<Option<Frame>, FrameError>
-        requires { IsJoined self.old }
-        ensures joined { IsJoined self.new }
-        ensures exact { Answers self.old.came.bytes result self.new.came.bytes }
+        requires { JoinerInvariant self.old }
+        ensures joined { JoinerInvariant self.new }
+        ensures exact { NextFrame self.old.came.bytes result self.new.came.bytes }
     {
         if let Some(len) = self.begun {
             return self.sync(len);
@@ -67,7 +68,7 @@ impl Joiner {
                 self.sync(len)
             }
             Some(Part::Whole(frame)) => {
-                self.came = History::behind(&self.came);
+                self.came = bytes_after_frame(&self.came);
                 Ok(Some(frame))
             }
             Some(Part::Piece(_)) => unreachable!(),
@@ -77,17 +78,17 @@ impl Joiner {
 
     // The sync frame that has begun.
     fn sync(&mut self, len: u32) -> Result<Option<Frame>, FrameError>
-        requires joined { IsJoined self.old }
+        requires joined { JoinerInvariant self.old }
         requires begun { self.old.begun ≡ Some len }
-        ensures joined { IsJoined self.new }
-        ensures exact { Answers self.old.came.bytes result self.new.came.bytes }
+        ensures joined { JoinerInvariant self.new }
+        ensures exact { NextFrame self.old.came.bytes result self.new.came.bytes }
     {
         match sync_body(&mut self.parts, len, &self.came)? {
             None => Ok(None),
             Some(body) => {
                 self.begun = None;
                 let frame = Frame::Sync(body);
-                self.came = History::behind(&self.came);
+                self.came = bytes_after_frame(&self.came);
                 Ok(Some(frame))
             }
         }
@@ -95,8 +96,12 @@ impl Joiner {
 }
 
 // The body of the sync frame that has begun, once all its bytes are there.
-fn sync_body(parts: &mut PartFramer, len: u32, came: &History) -> Result<Option<Bytes>, FrameError>
-    requires { Stands (with_given came.now.bytes len []) parts.old }
+fn sync_body(
+    parts: &mut PartFramer,
+    len: u32,
+    came: &GhostBytes,
+) -> Result<Option<Bytes>, FrameError>
+    requires { IsPartStateOf (with_given came.now.bytes len []) parts.old }
     ensures { BodyAnswers came.now.bytes len result parts.new }
 {
     if parts.held() < len as usize {
@@ -120,8 +125,8 @@ fn sync_body(parts: &mut PartFramer, len: u32, came: &History) -> Result<Option<
 }
 
 // Takes the end of the sync frame: all its bytes were given, so nothing else comes next.
-fn end(parts: &mut PartFramer, body: &[u8], _came: &History)
-    requires { Stands (with_given _came.now.bytes (length body.now) body.now) parts.old }
+fn end(parts: &mut PartFramer, body: &[u8], _came: &GhostBytes)
+    requires { IsPartStateOf (with_given _came.now.bytes (length body.now) body.now) parts.old }
     ensures { EndAnswers _came.now.bytes body.now parts.new }
 {
     let _end = parts.next();

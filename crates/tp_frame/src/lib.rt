@@ -1,8 +1,8 @@
 //! Frames: what two peers send each other over a stream of bytes.
 //!
-//! A frame is the length of its body in 4 bytes, and the body: a kind and what stands behind it. A [`Framer`] takes
+//! A frame is the length of its body in 4 bytes, and the body: a kind and what is after it. A [`Framer`] takes
 //! the stream in whatever pieces it comes and gives the frames; [`write_frame`] gives the bytes of one. The bytes are
-//! a layout of our own, of which docs/FORMATS.md says every byte.
+//! a layout of our own: docs/FORMATS.md says every byte.
 #![tactic(auto)]
 
 mod error;
@@ -19,7 +19,7 @@ mod writing;
 pub use error::FrameError;
 pub use frame::Frame;
 pub use framer::Framer;
-pub use history::History;
+pub use history::bytes_after_frame;
 pub use limits::MAX_BODY;
 pub use parts::{Part, PartFramer};
 pub use writing::write_frame;

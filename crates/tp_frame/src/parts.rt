@@ -3,7 +3,7 @@
 ghost use Rattle.std.specs.Prelude.{◌≡◌, ◌≤◌, ◌⊎◌, ℕ, ◌<◌, [], length, Err, None, Ok, OnOk, OnErr, IsOkUnless};
 ghost use Rattle.tp_frame.specs.declared.error.FrameError.TheVariants.{OutOfMemory};
 ghost use Rattle.tp_frame.specs.declared.parts.Stage.TheVariants.{Front, Inside, Refused};
-ghost use Rattle.tp_frame.specs.Parts.{Led, at_first, with_more, Stands, PartAnswers, InsideAnswers, MayWait};
+ghost use Rattle.tp_frame.specs.Parts.{PartsBefore, at_first, with_more, IsPartStateOf, PartAnswers, InsideAnswers, MayWait};
 
 use crate::error::FrameError;
 use crate::frame::Frame;
@@ -16,7 +16,7 @@ use std::marker::Model;
 /// A part of the stream of frames. A sync frame comes as its begin, pieces and its end; any other frame comes whole.
 #[derive(Debug, PartialEq, Eq, Drop)]
 pub enum Part {
-    /// A sync frame begins, with so many bytes after its kind, at most 16,777,215.
+    /// A sync frame begins: how many bytes are after its kind, at most 16,777,215.
     Begin(u32),
     /// The next bytes of the sync frame, at least one.
     Piece(Bytes),
@@ -31,9 +31,9 @@ pub enum Part {
 pub(crate) enum Stage {
     /// Between frames, or in the front of one.
     Front,
-    /// In a sync frame, of which so many bytes are still to be given.
+    /// In a sync frame that has `left` bytes still to be given.
     Inside { left: usize },
-    /// At a frame that is refused once so many more bytes came, whatever they are.
+    /// At a frame that is refused once `left` more bytes came, whatever they are.
     Refused { left: usize, error: FrameError },
 }
 
@@ -67,7 +67,7 @@ impl Model for PartFramer {
 impl PartFramer {
     /// A framer that holds nothing. No memory.
     pub fn new(alloc: Global) -> PartFramer
-        ensures { Stands at_first result }
+        ensures { IsPartStateOf at_first result }
     {
         PartFramer {
             buffer: BytesMut::new(alloc),
@@ -86,8 +86,8 @@ impl PartFramer {
     ///
     /// The bytes are copied once. Those of a frame that is refused are counted and not held.
     pub fn feed(&mut self, bytes: &[u8]) -> Result<(), FrameError>
-        ensures ok { OnOk result ((led : Led) → Stands led self.old
-            → Stands (with_more led bytes.now) self.new) }
+        ensures ok { OnOk result ((led : PartsBefore) → IsPartStateOf led self.old
+            → IsPartStateOf (with_more led bytes.now) self.new) }
         ensures err { OnErr result (self.new ≡ self.old) }
         ensures memory { IsOkUnless result OutOfMemory }
     {
@@ -112,14 +112,14 @@ impl PartFramer {
     /// No byte is copied, but for a hello's document: a piece is a part of the framer's block, which is kept as long as
     /// it is. What is taken is a count of the block's owners.
     pub fn next(&mut self) -> Result<Option<Part>, FrameError>
-        ensures exact { (led : Led) → Stands led self.old → PartAnswers led result self.new }
+        ensures exact { (led : PartsBefore) → IsPartStateOf led self.old → PartAnswers led result self.new }
         ensures soon { result ≡ Ok None → MayWait self.new.stage self.new.held }
         ensures memory { result ≡ Err OutOfMemory → self.new ≡ self.old }
     {
         match self.stage {
             Stage::Front => self.begin(),
             Stage::Inside { left } => self.go_on(left),
-            Stage::Refused { left, error } => refused(left, error),
+            Stage::Refused { left, error } => refusal_after(left, error),
         }
     }
 
@@ -146,7 +146,7 @@ impl PartFramer {
         }
     }
 
-    // Lets go of the bytes of a frame that is refused once so many more came.
+    // Lets go of the bytes of a frame that is refused once `left` more came.
     fn refuse(&mut self, left: usize, error: FrameError) -> Result<Option<Part>, FrameError>
         ensures waits { 0 < left → result ≡ Ok None }
         ensures shows { left ≡ 0 → result ≡ Err error }
@@ -154,10 +154,10 @@ impl PartFramer {
     {
         self.buffer.clear();
         self.stage = Stage::Refused { left, error };
-        refused(left, error)
+        refusal_after(left, error)
     }
 
-    // The next part of the sync frame of which so many bytes are still to be given.
+    // The next part of the sync frame, which has `left` bytes still to be given.
     fn go_on(&mut self, left: usize) -> Result<Option<Part>, FrameError>
         requires { self.old.stage ≡ Inside left }
         ensures { InsideAnswers left self.old.held result self.new }
@@ -184,8 +184,8 @@ fn piece_len(left: usize, held: usize) -> usize
     left.min(held)
 }
 
-// What is answered at a frame that is refused once so many more bytes came.
-fn refused(left: usize, error: FrameError) -> Result<Option<Part>, FrameError>
+// What is answered at a frame that is refused once `left` more bytes came.
+fn refusal_after(left: usize, error: FrameError) -> Result<Option<Part>, FrameError>
     ensures waits { 0 < left → result ≡ Ok None }
     ensures shows { left ≡ 0 → result ≡ Err error }
 {

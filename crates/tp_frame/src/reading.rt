@@ -1,7 +1,7 @@
-//! Reading what stands at the front of bytes.
+//! Reading what is at the front of bytes.
 //!
 //! Nothing here takes memory or makes a copy, but for the 16 bytes of a hello's document.
-#![tactic(auto, unfolding(tp_codec::specs::Reading::or_fail, tp_codec::specs::Reading::found_or, tp_codec::specs::Reading::and_then, tp_codec::specs::Reading::and_next, tp_codec::specs::Reading::give, tp_codec::specs::Reading::require, tp_codec::specs::Reading::passed, crate::specs::Reading::head_at))]
+#![tactic(auto, unfolding(tp_codec::specs::Reading::or_fail, tp_codec::specs::Reading::found_or, tp_codec::specs::Reading::and_then, tp_codec::specs::Reading::and_next, tp_codec::specs::Reading::give, tp_codec::specs::Reading::require, tp_codec::specs::Reading::pass_or_fail, crate::specs::Reading::head_at))]
 
 ghost use Rattle.std.specs.Prelude.{◌≡◌, ℕ, ◌<◌, ◌≤◌, length, slice_index, Err, IfOk, IfErr, IsOkUnless};
 ghost use Rattle.std.specs.Int.{w32};
@@ -9,10 +9,10 @@ ghost use Rattle.tp_codec.specs.Prefix.{byte_at, bytes_at, number_at};
 ghost use Rattle.tp_codec.specs.Reading.{or_fail};
 ghost use Rattle.tp_frame.specs.declared.reading.NoFrame.TheVariants.{Missing, Fault};
 ghost use Rattle.tp_frame.specs.declared.error.FrameError.TheVariants.{BadKind, BadHello, OutOfMemory};
-ghost use Rattle.tp_frame.specs.Gives.{Is};
+ghost use Rattle.tp_codec.specs.Gives.{Is};
 ghost use Rattle.tp_frame.specs.Openings.{right_len, fault_of, IsOpening};
 ghost use Rattle.tp_frame.specs.Parts.{HasSyncKind};
-ghost use Rattle.tp_frame.specs.Reading.{head_at, hello_of, done_of, refusal_of, frame_behind, frame_at};
+ghost use Rattle.tp_frame.specs.Reading.{head_at, hello_of, done_of, refusal_frame_of, frame_after, frame_at};
 
 use crate::error::FrameError;
 use crate::frame::Frame;
@@ -39,7 +39,7 @@ pub(crate) struct Head {
 /// What is at the front, as soon as its length and its kind say it.
 #[derive(Drop)]
 pub(crate) enum Opening {
-    /// A sync frame, with so many bytes after its kind, which needn't be there yet.
+    /// A sync frame, with `len` bytes after its kind, which needn't be there yet.
     Sync { len: usize },
     /// Any other frame, whole, and how many bytes it has.
     Whole { frame: Frame, len: usize },
@@ -98,7 +98,7 @@ fn head_of(reader: &mut Reader<'_>) -> Result<Head, NoFrame>
     Ok(Head { kind, len: len - 1 })
 }
 
-// The hello that stands behind its kind.
+// The hello that is after its kind.
 fn hello_in(content: &[u8]) -> Result<Frame, FrameError>
     ensures found { Is (λ f. f) result (hello_of content.now) }
     ensures err { IsOkUnless result BadHello }
@@ -116,7 +116,7 @@ fn hello_in(content: &[u8]) -> Result<Frame, FrameError>
     }
 }
 
-// The done that stands behind its kind.
+// The done that is after its kind.
 fn done_in(content: &[u8]) -> Result<Frame, FrameError>
     ensures found { Is (λ f. f) result (done_of content.now) }
     ensures err { IsOkUnless result BadKind }
@@ -127,9 +127,9 @@ fn done_in(content: &[u8]) -> Result<Frame, FrameError>
     }
 }
 
-// The refusal that stands behind its kind.
+// The refusal that is after its kind.
 fn refusal_in(content: &[u8]) -> Result<Frame, FrameError>
-    ensures found { Is (λ f. f) result (refusal_of content.now) }
+    ensures found { Is (λ f. f) result (refusal_frame_of content.now) }
     ensures err { IsOkUnless result BadKind }
 {
     match content {
@@ -141,7 +141,7 @@ fn refusal_in(content: &[u8]) -> Result<Frame, FrameError>
 // The frame that a body is, but for a sync frame.
 fn frame_of(kind: u8, content: &[u8]) -> Result<Frame, FrameError>
     requires { kind ≡ 1 → ⊥ }
-    ensures found { Is (λ f. f) result (frame_behind kind content.now) }
+    ensures found { Is (λ f. f) result (frame_after kind content.now) }
     ensures err { IfErr result (λ e. e ≡ OutOfMemory → ⊥) }
 {
     match kind {

@@ -2,7 +2,7 @@
 
 ghost use Rattle.std.specs.Prelude.{◌≡◌, ℕ, ◌<◌, ◌↔◌, ◌⊎◌, ◌∷◌, ◌++◌, length, slice_index, Err, IfOk, IfErr, OnOk};
 ghost use Rattle.tp_frame.specs.declared.error.FrameError.TheVariants.{TooLong, OutOfMemory};
-ghost use Rattle.tp_frame.specs.Frame.{body_of, body_len, spelling, IsTyped, IsFrame};
+ghost use Rattle.tp_frame.specs.Frame.{body_of, body_len, frame_spelling, IsTypedFrame, IsFrame};
 
 use crate::error::FrameError;
 use crate::frame::Frame;
@@ -13,7 +13,7 @@ use tp_list::array_len;
 // How many bytes the body of a frame has, and what its type says of them.
 fn len_of(frame: &Frame) -> usize
     ensures len { result ≡ body_len (body_of frame.now) }
-    ensures typed { IsTyped frame.now }
+    ensures typed { IsTypedFrame frame.now }
 {
     match frame {
         Frame::Hello { version, id } => {
@@ -56,7 +56,7 @@ fn put_body(out: &mut Vec<u8>, frame: &Frame) -> Result<(), AllocError>
 /// Refused as `TooLong` where the body would have more than 16,777,216 bytes, which only a sync frame's can, and as
 /// `OutOfMemory`.
 pub fn write_frame(alloc: Global, frame: &Frame) -> Result<Vec<u8>, FrameError>
-    ensures bytes { IfOk result (λ v. IsFrame frame.now × (v.items ≡ spelling frame.now)) }
+    ensures bytes { IfOk result (λ v. IsFrame frame.now × (v.items ≡ frame_spelling frame.now)) }
     ensures too_long { (result ≡ Err TooLong) ↔ (MAX_BODY < body_len (body_of frame.now)) }
     ensures err { IfErr result (λ e. (e ≡ TooLong) ⊎ (e ≡ OutOfMemory)) }
 {

@@ -124,13 +124,13 @@ clear-replicate n j = elim (truth (nat_lt j n)) [
   | inr high ↦ get_or_past (replicate n false) j false (rw (length-replicate n false) (grind (arith, nat_tests)))
 ]
 
--- whether a counter behind the first is covered
+-- whether a counter after the first is covered
 pub marks-at : (marks : List Bool) (n count : ℕ) (rs : List Record) (k : ℕ) → n ≤ k → Marks marks n count rs → covers n rs k ≡ (nat_lt (k - n) count && not (get_or marks (k - n) false))
 marks-at marks n count rs k le h =
     let e : k ≡ n + (k - n) = omega arith in
     ap (covers n rs) e ∙ h.each (k - n)
 
--- behind the operations nothing is covered
+-- after the operations nothing is covered
 pub marks-past : (marks : List Bool) (n count : ℕ) (rs : List Record) (k : ℕ) → n ≤ k → count ≤ k - n → Marks marks n count rs → false ≡ covers n rs k
 marks-past marks n count rs k le past h = sym (marks-at marks n count rs k le h ∙ none (k - n) count (get_or marks (k - n) false) past) where
   none : (j c : ℕ) (b : Bool) → c ≤ j → (nat_lt j c && not b) ≡ false

@@ -1,7 +1,9 @@
 -- Laws of the marks that are kept of applied changes.
-use Rattle.tp_graph.proofs.Common.{◌≡◌, ◌⊎◌, ℕ, ◌+◌, ◌<◌, ◌≤◌, inl, inr, List, [], ◌∷◌, ◌++◌, length, Bool, Some, sym, subst, arith, length-append, slice_get, slice_get_within, ChangeParts, count_of, Marks, IsMarked, IsMarkedAt, AreMarked, Marked}
+use Rattle.tp_graph.proofs.Common.{◌≡◌, ◌⊎◌, ℕ, ◌+◌, ◌<◌, ◌≤◌, inl, inr, List, [], ◌∷◌, ◌++◌, length, Bool, Some, sym, subst, arith, length-append, slice_get, slice_get_within, ChangeParts, count_of, Marks, IsMarked, IsMarkedAt, AreMarked, Marked, ◌∙◌, ap, AllZip}
 use Rattle.tp_change.specs.Operations.{op_count}
-use Rattle.tp_graph.proofs.PlacesLaws.{at_push}
+use Rattle.tp_history.proofs.PlacesLaws.{at_push}
+use Rattle.tp_graph.specs.Marked.{IsSameMarked}
+use Rattle.tp_ancestry.proofs.CopyLaws.{each_over}
 
 one_more : (C : List ChangeParts) (x : ChangeParts) → length (C ++ x ∷ []) ≡ length C + 1
 one_more C x = length-append C (x ∷ [])
@@ -53,7 +55,18 @@ IsMarked-all c deletes count w room = record {
   room = room;
 }
 
--- the same where the first counter and their number are known
+-- a change's marks are marks for its records, where the first counter and their number are known
 pub IsMarked-counted : (c : ChangeParts) (deletes : List Bool) (n count : ℕ) → n ≡ c.start → count ≡ op_count c → IsMarked c deletes → Marks deletes n count c.records
 IsMarked-counted c deletes n count first all w =
     subst (λ m. Marks deletes m count c.records) (sym first) (subst (λ m. Marks deletes c.start m c.records) (sym all) w.marks)
+
+-- ---- a copy
+
+IsMarkedAt-same : (C : List ChangeParts) (m n : Marked) → IsSameMarked m n → IsMarkedAt C m → IsMarkedAt C n
+IsMarkedAt-same C m n same w = record {
+  place = rw same.place w.place;
+  marked = λ c at. rw same.deletes (w.marked c (ap (slice_get C) (sym same.place) ∙ at));
+}
+
+pub AreMarked-same : (C : List ChangeParts) (ms ns : List Marked) → AllZip IsSameMarked ms ns → AreMarked C ms → AreMarked C ns
+AreMarked-same C ms ns = each_over IsSameMarked (IsMarkedAt C) (IsMarkedAt-same C) ms ns

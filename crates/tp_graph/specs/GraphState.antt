@@ -1,8 +1,8 @@
 -- What contracts see of a graph, and of the changes that wait.
-use Rattle.std.specs.Prelude.{◌≡◌, ℕ, ◌≤◌, List, [], ◌∷◌, length, Option, false}
-use Rattle.tp_graph.specs.Common.{Hash, ChangeParts, hash_of}
+use Rattle.std.specs.Prelude.{ℕ, ◌≤◌, List, length, Option}
+use Rattle.tp_graph.specs.Common.{Hash, ChangeParts}
 use Rattle.tp_graph.specs.declared.limits.TheConstants.{MOST_WAITING}
-use Rattle.tp_graph.specs.Named.{has}
+use Rattle.tp_history.specs.Named.{HashesOnce}
 
 -- The changes that are applied, in the order in which they entered; those that wait, in the order in which they
 -- came; and the hash of the change for whose entry every growth is made, if there is one.
@@ -14,11 +14,6 @@ pub record GraphState : Type 0 where
 -- how many changes wait at most
 abbrev pub most_waiting : ℕ
 most_waiting = MOST_WAITING
-
--- No two of the changes have one hash.
-abbrev pub HashesOnce : List ChangeParts → Type 0
-HashesOnce [] = Unit {0}
-HashesOnce (c ∷ C) = (has C (hash_of c) ≡ false) × HashesOnce C
 
 -- At most 1,024 changes wait, each hash once.
 pub record IsWaiting (waiting : List ChangeParts) : Type 0 where

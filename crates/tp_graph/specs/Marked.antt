@@ -17,3 +17,8 @@ pub record IsMarkedAt (C : List ChangeParts) (m : Marked) : Type 0 where
 -- Each entry has the marks of the change at its place.
 abbrev pub AreMarked : List ChangeParts → List Marked → Type 0
 AreMarked C ms = (k : ℕ) → (m : Marked) → slice_get ms k ≡ Some m → IsMarkedAt C m
+
+-- The same marks are kept for the same place.
+pub record IsSameMarked (m n : Marked) : Type 0 where
+  pub place : n.place ≡ m.place
+  pub deletes : n.deletes.items ≡ m.deletes.items

@@ -1,9 +1,9 @@
-//! What the records that stand before a record of their change insert.
+//! What the records before a record of their change insert.
 
 ghost use Rattle.std.specs.Prelude.{◌≡◌, ℕ, ◌+◌, ◌≤◌, List, [], ◌∷◌, ◌++◌, length};
-ghost use Rattle.tp_change.specs.declared.record.Record.{Record};
-ghost use Rattle.tp_change.specs.Operations.{count_in};
-ghost use Rattle.tp_graph.specs.Before.{Tells, Marks, AreSet};
+ghost use Rattle.tp_layout.specs.declared.record.Record.{Record};
+ghost use Rattle.tp_layout.specs.Counts.{count_in};
+ghost use Rattle.tp_graph.specs.Before.{DescribesRecords, Marks, AreSet};
 ghost use Rattle.tp_graph.specs.Covers.{covers};
 
 use tp_change::Record;
@@ -24,7 +24,7 @@ impl<'a> Before<'a> {
     /// Whether one of the records inserts at the counter. A look-up.
     pub(crate) fn inserts_at(&self, counter: u64) -> bool
         requires { self.now.count ≤ length self.now.deletes.now }
-        ensures { (rs : List Record) → Tells self.now rs
+        ensures { (rs : List Record) → DescribesRecords self.now rs
             → result ≡ covers self.now.first rs counter }
     {
         if counter < self.first {
@@ -50,7 +50,7 @@ fn mark_all(deletes: &mut [bool], from: usize, end: usize)
     }
 }
 
-/// Marks the operations of the record behind those that are counted, where they are deletes; how many there are then.
+/// Marks the operations of the record after those that are counted, where they are deletes; how many there are then.
 /// The cost is that of going over a text, or over the marks of a run of deletes.
 pub(crate) fn put(deletes: &mut [bool], count: usize, entry: &Record) -> usize
     requires { count + count_in entry.now ≤ length deletes.old }

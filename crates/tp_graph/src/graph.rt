@@ -3,34 +3,36 @@
 ghost use Rattle.std.specs.Prelude.{◌≡◌, ◌↔◌, ◌⊎◌, ◌+◌, ◌<◌, ◌≤◌, List, [], ◌∷◌, ◌++◌, false, length, map, Some, None, is_ok, if◌then◌else◌, MatchOption, MatchResult, IfErr, IfOk, IsOkUnless, OnOk, OnErr};
 ghost use Rattle.std.specs.List.{slice_get, remove};
 ghost use Rattle.tp_list.specs.Members.{In};
-ghost use Rattle.tp_change.specs.declared.parts.ChangeParts.{ChangeParts};
+ghost use Rattle.tp_layout.specs.declared.parts.ChangeParts.{ChangeParts};
 ghost use Rattle.tp_change.specs.ChangeHash.{hash_of};
 ghost use Rattle.tp_change.specs.Elements as made;
-ghost use Rattle.tp_graph.specs.Named as named;
-ghost use Rattle.tp_graph.specs.Heads as head;
-ghost use Rattle.tp_graph.specs.Clocks.{IsClockOf};
-ghost use Rattle.tp_graph.specs.Past.{past};
-ghost use Rattle.tp_graph.specs.Fit as fit;
-ghost use Rattle.tp_graph.specs.Fit.{cause, most_changes};
-ghost use Rattle.tp_graph.specs.Places.{place_from};
-ghost use Rattle.tp_graph.specs.Sound.{Sound};
-ghost use Rattle.tp_graph.specs.Answers.{Answers, IsCause, TakesMemory};
-ghost use Rattle.tp_graph.specs.GraphState.{most_waiting, HashesOnce};
-ghost use Rattle.tp_graph.specs.Outside.{IsNext, IsNextBefore, IsOutside};
-ghost use Rattle.tp_graph.specs.Since.{marks_since, past_places, since, IsMissing};
+ghost use Rattle.tp_history.specs.Named as named;
+ghost use Rattle.tp_history.specs.Heads as head;
+ghost use Rattle.tp_ancestry.specs.Clocks.{IsClockOf};
+ghost use Rattle.tp_history.specs.Past.{past};
+ghost use Rattle.tp_history.specs.Fit as fit;
+ghost use Rattle.tp_history.specs.Fit.{cause, most_changes};
+ghost use Rattle.tp_history.specs.Places.{place_from};
+ghost use Rattle.tp_history.specs.Sound.{Sound};
+ghost use Rattle.tp_graph.specs.Causes.{MatchesCause, IsCause, TakesMemory};
+ghost use Rattle.tp_graph.specs.GraphState.{most_waiting};
+ghost use Rattle.tp_history.specs.Named.{HashesOnce};
+ghost use Rattle.tp_ancestry.specs.Outside.{IsNext, IsNextBefore, IsOutside};
+ghost use Rattle.tp_history.specs.Since.{marks_since, past_places, since};
+ghost use Rattle.tp_graph.specs.Waiting.{IsMissing};
 ghost use Rattle.tp_list.specs.Rising.{IsRising};
 ghost use Rattle.tp_opid.specs.Order.{hash_cmp};
 ghost use Rattle.tp_opid.specs.declared.hash.Hash.{Hash};
 
 use crate::applied::Applied;
-use crate::clock::Clock;
-use crate::error::GraphError;
-use crate::outside::Outside;
-use crate::past::Past;
-use crate::since::has;
+use crate::copies::copies_of;
+use crate::missing::{has, missing};
+use crate::past::{Past, places_in};
 use std::alloc::{AllocError, Global};
 use std::marker::Model;
+use tp_ancestry::{Clock, Outside};
 use tp_change::Change;
+use tp_history::GraphError;
 use tp_opid::{Actor, Hash};
 
 /// Changes by hash: those that are applied, in the order in which they entered, and those that wait for others.
@@ -91,18 +93,18 @@ impl Graph {
     /// The changes are copied one by one, and what is kept beside them as it is: nothing is judged and no past is
     /// joined. It takes as much memory as what the graph holds, without what waits: the lists with an entry for each
     /// change have room for an eighth more, and up to four, and the others for none.
-    pub fn copied(&self) -> Result<Graph, AllocError>
+    pub fn copy(&self) -> Result<Graph, AllocError>
         ensures applied { IfOk result (λ g. g.applied ≡ self.now.applied) }
         ensures waiting { IfOk result (λ g. g.waiting ≡ []) }
         ensures room { IfOk result (λ g. g.room ≡ None) }
     {
         Ok(Graph {
-            applied: self.applied.copied()?,
-            waiting: Vec::new(self.applied.alloc()),
+            applied: self.applied.copy()?,
+            waiting: Vec::new(self.applied.ancestry().alloc()),
         })
     }
 
-    /// The applied changes, in the order in which they entered: dependencies stand before dependents. At most
+    /// The applied changes, in the order in which they entered: dependencies come before dependents. At most
     /// 4,294,967,295.
     pub fn changes(&self) -> &[Change]
         ensures changes { result.now ≡ self.now.applied }
@@ -132,21 +134,21 @@ impl Graph {
     pub fn heads(&self) -> &[Hash]
         ensures { result.now ≡ head.heads self.now.applied }
     {
-        self.applied.heads()
+        self.applied.ancestry().heads()
     }
 
     /// The place in applied order, from 0, of the change with the hash.
     pub fn place(&self, hash: &Hash) -> Option<usize>
         ensures { result ≡ place_from 0 self.now.applied hash.now }
     {
-        self.applied.place(hash)
+        self.applied.ancestry().place(hash)
     }
 
     /// Whether an applied change has the hash.
     pub fn contains(&self, hash: &Hash) -> bool
         ensures { result ≡ named.has self.now.applied hash.now }
     {
-        self.applied.contains(hash)
+        self.applied.ancestry().contains(hash)
     }
 
     /// The applied change with the hash.
@@ -154,7 +156,11 @@ impl Graph {
         ensures { MatchOption result (named.has self.now.applied hash.now ≡ false)
             (λ change. In change.now self.now.applied × (hash_of change.now ≡ hash.now)) }
     {
-        self.applied.get(hash)
+        let ancestry = self.applied.ancestry();
+        match ancestry.place(hash) {
+            Some(place) => Some(ancestry.at(place)),
+            None => None,
+        }
     }
 
     /// The counter of the next operation: one more than the greatest counter of the applied changes, or 1 where
@@ -162,7 +168,7 @@ impl Graph {
     pub fn next_counter(&self) -> u64
         ensures { result ≡ made.next_counter self.now.applied }
     {
-        self.applied.next_counter()
+        self.applied.ancestry().next_counter()
     }
 
     /// How many of the applied changes the actor made. A number of comparisons that grows with the logarithm of the
@@ -170,7 +176,7 @@ impl Graph {
     pub fn count_by(&self, actor: &Actor) -> u64
         ensures { result ≡ fit.count_by actor.now self.now.applied }
     {
-        self.applied.count_by(actor)
+        self.applied.ancestry().changes_by(actor).len() as u64
     }
 
     /// Whether the change can enter: `Ok`, or why not. `OutOfMemory` comes only where the change isn't known, its
@@ -178,21 +184,21 @@ impl Graph {
     ///
     /// Where the dependencies are the heads none of them is looked up: for each reference a number of comparisons that
     /// grows with the logarithm of the number of applied changes, and the records of the changes that are referred to.
-    /// Elsewhere each dependency is looked up twice, and the pasts of the dependencies are joined, by what is kept beside
-    /// their changes: a comparison for each actor with changes in them behind the prefix that they share, for each
-    /// dependency and each reference. Only where there are more than 4,096 such actors are the applied changes walked
-    /// back over, with a byte for each.
+    /// Elsewhere each dependency is looked up twice, and the pasts of the dependencies are joined, by what is kept
+    /// beside their changes: a comparison for each actor with changes in them after the prefix that they share, for
+    /// each dependency and each reference. Only where there are more than 4,096 such actors are the applied changes
+    /// walked back over, with a byte for each.
     pub fn check(&self, change: &Change) -> Result<(), GraphError>
-        ensures answers { Answers result (cause self.now.applied change.now) }
+        ensures answers { MatchesCause result (cause self.now.applied change.now) }
         ensures memory { result ≡ Err GraphError.OutOfMemory
             → TakesMemory self.now.applied change.now }
     {
         self.applied.check(change)
     }
 
-    /// Makes every growth that the entry of a change takes that can enter, so that [`enter`](Graph::enter) takes no memory.
-    /// What a caller sees stays as it was. The change isn't judged: it costs as many comparisons as its dependencies, where
-    /// they are the heads, and elsewhere what joining their pasts does.
+    /// Makes every growth that the entry of a change takes that can enter, so that [`enter`](Graph::enter) takes no
+    /// memory. What a caller sees stays as it was. The change isn't judged: it costs as many comparisons as its
+    /// dependencies, where they are the heads, and elsewhere what joining their pasts does.
     pub fn reserve(&mut self, change: &Change) -> Result<(), AllocError>
         requires { cause self.old.applied change.now ≡ None }
         ensures applied { self.new.applied ≡ self.old.applied }
@@ -203,10 +209,10 @@ impl Graph {
         self.applied.reserve(change)
     }
 
-    /// Checks as [`check`](Graph::check) does, and then makes every growth as [`reserve`](Graph::reserve) does, behind the
-    /// past that was found. What a caller sees stays as it was.
+    /// Checks as [`check`](Graph::check) does, and then makes every growth as [`reserve`](Graph::reserve) does, after
+    /// the past that was found. What a caller sees stays as it was.
     pub fn ready(&mut self, change: &Change) -> Result<(), GraphError>
-        ensures answers { Answers result (cause self.old.applied change.now) }
+        ensures answers { MatchesCause result (cause self.old.applied change.now) }
         ensures applied { self.new.applied ≡ self.old.applied }
         ensures waiting { self.new.waiting ≡ self.old.waiting }
         ensures room { OnOk result (self.new.room ≡ Some (hash_of change.now)) }
@@ -220,7 +226,7 @@ impl Graph {
     pub fn ready_waiting(&mut self, i: usize) -> Result<(), GraphError>
         requires { i < length self.old.waiting }
         ensures answers { (c : ChangeParts) → slice_get self.old.waiting i ≡ Some c
-            → Answers result (cause self.old.applied c) }
+            → MatchesCause result (cause self.old.applied c) }
         ensures applied { self.new.applied ≡ self.old.applied }
         ensures waiting { self.new.waiting ≡ self.old.waiting }
         ensures room { (c : ChangeParts) → slice_get self.old.waiting i ≡ Some c
@@ -230,8 +236,8 @@ impl Graph {
         self.applied.ready(&self.waiting[i])
     }
 
-    /// Enters a change that can enter, as the last applied one, once its growths were made by [`reserve`](Graph::reserve) or
-    /// [`ready`](Graph::ready). No memory.
+    /// Enters a change that can enter, as the last applied one, once its growths were made by
+    /// [`reserve`](Graph::reserve) or [`ready`](Graph::ready). No memory.
     pub fn enter(&mut self, change: Change)
         requires enters { cause self.old.applied change ≡ None }
         requires room { self.old.room ≡ Some (hash_of change) }
@@ -264,7 +270,7 @@ impl Graph {
         }
     }
 
-    /// Keeps a change that waits, behind those that wait already. There are fewer than 1,024 of them, and none has
+    /// Keeps a change that waits, after those that wait already. There are fewer than 1,024 of them, and none has
     /// its hash. The only refusal is `OutOfMemory`, which gives the change back and leaves the graph as it was.
     pub fn hold(&mut self, change: Change) -> Result<(), Rejected>
         requires few { length self.old.waiting < most_waiting }
@@ -309,18 +315,19 @@ impl Graph {
         ensures err { IfErr result
             (λ error. (error ≡ GraphError.UnknownHead) ⊎ (error ≡ GraphError.OutOfMemory)) }
     {
-        if !self.applied.has_all(hashes) {
+        let ancestry = self.applied.ancestry();
+        if !ancestry.has_all(hashes) {
             return Err(GraphError::UnknownHead);
         }
-        let part = self.applied.part(hashes)?;
-        Ok(Past::new(self.applied.places_in(&part)?))
+        let past_set = ancestry.past_set(hashes)?;
+        Ok(Past::new(places_in(ancestry, &past_set)?))
     }
 
     /// The clock of the past of the hashes, with the refusals of [`past`](Graph::past).
     ///
-    /// The pasts of the hashes are joined as [`check`](Graph::check) does; then the past is asked for the last change of
-    /// each actor of the applied changes, as often as the logarithm of the number of the actor's changes. No change is
-    /// walked over.
+    /// The pasts of the hashes are joined as [`check`](Graph::check) does; then the past is asked for the last change
+    /// of each actor of the applied changes, as often as the logarithm of the number of the actor's changes. No change
+    /// is walked over.
     pub fn clock(&self, hashes: &[Hash]) -> Result<Clock, GraphError>
         ensures clock { IfOk result (λ clock. IsClockOf clock (past self.now.applied hashes.now)) }
         ensures unknown { (result ≡ Err GraphError.UnknownHead)
@@ -328,8 +335,9 @@ impl Graph {
         ensures err { IfErr result
             (λ error. (error ≡ GraphError.UnknownHead) ⊎ (error ≡ GraphError.OutOfMemory)) }
     {
-        if self.applied.has_all(hashes) {
-            Ok(self.applied.clock(hashes)?)
+        let ancestry = self.applied.ancestry();
+        if ancestry.has_all(hashes) {
+            Ok(ancestry.clock(hashes)?)
         } else {
             Err(GraphError::UnknownHead)
         }
@@ -338,14 +346,14 @@ impl Graph {
     /// The applied changes outside the past of those hashes that are known, in applied order. The only refusal is
     /// `OutOfMemory`.
     ///
-    /// The pasts of the hashes are joined as [`check`](Graph::check) does; then each place behind the prefix is asked
+    /// The pasts of the hashes are joined as [`check`](Graph::check) does; then each place after the prefix is asked
     /// for.
     pub fn changes_since(&self, hashes: &[Hash]) -> Result<Vec<&Change>, GraphError>
         ensures changes { IfOk result
             (λ v. map (λ c. c.now) v.items ≡ since self.now.applied hashes.now) }
         ensures err { IsOkUnless result GraphError.OutOfMemory }
     {
-        Ok(self.applied.changes_since(hashes)?)
+        Ok(self.applied.ancestry().changes_since(hashes)?)
     }
 
     /// Copies of what [`changes_since`](Graph::changes_since) gives, with its refusal.
@@ -353,7 +361,9 @@ impl Graph {
         ensures changes { IfOk result (λ v. v.items ≡ since self.now.applied hashes.now) }
         ensures err { IsOkUnless result GraphError.OutOfMemory }
     {
-        self.applied.since(hashes)
+        let ancestry = self.applied.ancestry();
+        let found = ancestry.changes_since(hashes)?;
+        copies_of(ancestry.alloc(), &found)
     }
 
     /// For each applied change, in applied order, whether it is outside the past of those of the hashes that are known,
@@ -366,30 +376,30 @@ impl Graph {
             (λ v. v.items ≡ marks_since self.now.applied hashes.now also.now) }
         ensures err { IsOkUnless result GraphError.OutOfMemory }
     {
-        Ok(self.applied.marks_since(hashes, also)?)
+        Ok(self.applied.ancestry().marks_since(hashes, also)?)
     }
 
     /// The changes that [`marks_since`](Graph::marks_since) marks, to be found one after another by
     /// [`next_outside`](Graph::next_outside). The only refusal is `OutOfMemory`.
     ///
-    /// The pasts of the hashes are joined as [`check`](Graph::check) does. Only where a change has one of the hashes `also`
-    /// each place is asked for, and it takes a byte for each applied change.
+    /// The pasts of the hashes are joined as [`check`](Graph::check) does. Only where a change has one of the hashes
+    /// `also` each place is asked for, and it takes a byte for each applied change.
     pub fn outside(&self, hashes: &[Hash], also: &[Hash]) -> Result<Outside, GraphError>
         ensures outside { IfOk result (IsOutside self.now.applied hashes.now also.now) }
         ensures err { IsOkUnless result GraphError.OutOfMemory }
     {
-        Ok(self.applied.outside_of(hashes, also)?)
+        Ok(self.applied.ancestry().outside_of(hashes, also)?)
     }
 
-    /// The first place, from a given one on, of a change that is outside; where there is none, a place behind all
+    /// The first place, from a given one on, of a change that is outside; where there is none, a place after all
     /// changes. It asks for the places from there, or from the prefix of the past, up to that: a comparison each where
-    /// the past has no tip.
+    /// the past has no latest place.
     pub fn next_outside(&self, outside: &Outside, from: usize) -> usize
         requires { (H : List Hash) × (K : List Hash) × IsOutside self.now.applied H K outside.now }
         ensures { (H K : List Hash) → IsOutside self.now.applied H K outside.now
             → IsNext (marks_since self.now.applied H K) from result }
     {
-        self.applied.next_outside(outside, from)
+        self.applied.ancestry().next_outside(outside, from)
     }
 
     /// The first place, from one on and before another, of a change that is outside; where there is none, a place that
@@ -400,7 +410,9 @@ impl Graph {
         ensures { (H K : List Hash) → IsOutside self.now.applied H K outside.now
             → IsNextBefore (marks_since self.now.applied H K) from to result }
     {
-        self.applied.next_outside_before(outside, from, to)
+        self.applied
+            .ancestry()
+            .next_outside_before(outside, from, to)
     }
 
     /// The dependencies of waiting changes that are neither applied nor waiting, rising, each once. The only
@@ -413,6 +425,6 @@ impl Graph {
             (λ v. (h : Hash) → In h v.items ↔ IsMissing self.now.applied self.now.waiting h) }
         ensures err { IsOkUnless result GraphError.OutOfMemory }
     {
-        Ok(self.applied.missing(self.waiting.as_slice())?)
+        Ok(missing(self.applied.ancestry(), self.waiting.as_slice())?)
     }
 }

@@ -1,38 +1,25 @@
 //! The graph of changes: which changes are applied, in the order in which they entered, with their heads and
 //! pasts, and which wait for changes that they depend on.
 //!
-//! Changes name those that they depend on by hash, as Git's commits and Automerge's changes do, so a set of
-//! changes is a directed graph without cycles. A change enters only where it fits: see [`GraphError`].
+//! A change enters only where it fits: see [`GraphError`]. What a past is and how it is found is in the crates below,
+//! `tp_history` and `tp_ancestry`; here are what a change is judged by, what is made ready for its entry, and what
+//! waits.
 #![tactic(auto)]
 
 mod applied;
 mod before;
-mod by_actor;
 mod check;
-mod clock;
-mod deps;
-mod error;
-mod extent;
+mod copies;
 mod graph;
-mod heads;
-mod index;
 mod judge;
-pub mod laws;
 mod limits;
-mod lists;
+mod maker;
 mod marked;
-mod outside;
-mod own;
-mod part;
+mod missing;
 mod past;
-mod pasts;
-mod since;
-mod walk;
 
-pub use clock::Clock;
-pub use error::GraphError;
 pub use graph::{Graph, Rejected};
-pub use limits::{MOST_CHANGES, MOST_WAITING};
-pub use outside::Outside;
+pub use limits::MOST_WAITING;
 pub use past::Past;
-pub use walk::same_hashes;
+pub use tp_ancestry::{Clock, Outside, same_hashes};
+pub use tp_history::{GraphError, MOST_CHANGES, laws};

@@ -1,7 +1,4 @@
 //! The limits of a graph. Definitions and contracts name the same constants.
 
-/// How many changes are applied at most.
-pub const MOST_CHANGES: usize = 4_294_967_295;
-
 /// How many changes wait at most.
 pub const MOST_WAITING: usize = 1_024;

@@ -1,20 +1,19 @@
-//! Marks of applied changes of many operations: so whether such a change inserts at a counter is a look-up, however many
-//! records it has.
+//! Marks of applied changes of many operations: so whether such a change inserts at a counter is a look-up, however
+//! many records it has.
 
 ghost use Rattle.std.specs.Prelude.{◌≡◌, ◌<◌, ◌≤◌, List, [], ◌∷◌, ◌++◌, length, Some, IfOk, IfSome, vec_len, vec_capacity};
 ghost use Rattle.std.specs.List.{slice_get};
-ghost use Rattle.tp_change.specs.declared.parts.ChangeParts.{ChangeParts};
+ghost use Rattle.tp_layout.specs.declared.parts.ChangeParts.{ChangeParts};
 ghost use Rattle.tp_change.specs.Operations.{op_count};
 ghost use Rattle.tp_graph.specs.Before.{IsClear};
-ghost use Rattle.tp_graph.specs.Copies.{IsSameMarked};
-ghost use Rattle.tp_graph.specs.Marked.{IsMarked, AreMarked};
+ghost use Rattle.tp_graph.specs.Marked.{IsSameMarked, IsMarked, AreMarked};
 
 use crate::before::put;
 use crate::judge::FEW;
-use crate::lists::push_within;
-use crate::own::next_to_look_at;
 use std::alloc::{AllocError, Global};
+use tp_ancestry::push_within;
 use tp_change::Change;
+use tp_history::next_to_look_at;
 
 /// The marks of the change at the place: one for each of its operations that is a delete.
 #[derive(Drop)]
@@ -73,9 +72,9 @@ pub(crate) fn keep(marked: &mut Vec<Marked>, place: usize, change: &Change, room
     push_within(marked, Marked { place, deletes });
 }
 
-/// The marks of the change at the place, where they are kept. The entries stand in the order of their places, so it
-/// takes a number of comparisons that grows with the logarithm of their number, and few for one of the latest; where they
-/// didn't, marks could be missed.
+/// The marks of the change at the place, where they are kept. The entries are in the order of their places, so it
+/// takes a number of comparisons that grows with the logarithm of their number, and few for one of the latest; where
+/// they didn't, marks could be missed.
 pub(crate) fn find(marked: &[Marked], place: usize) -> Option<&[bool]>
     ensures { IfSome result (λ deletes. (C : List ChangeParts) → AreMarked C marked.now
         → (c : ChangeParts) → slice_get C place ≡ Some c → IsMarked c deletes.now) }

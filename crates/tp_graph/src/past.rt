@@ -1,8 +1,12 @@
 //! Pasts as places.
 
-ghost use Rattle.std.specs.Prelude.{◌≡◌};
+ghost use Rattle.std.specs.Prelude.{◌≡◌, IfOk};
+ghost use Rattle.tp_ancestry.specs.PastSets.{bits, IsPastSetIn};
+ghost use Rattle.tp_history.specs.Marks.{places_from};
 
+use std::alloc::AllocError;
 use std::marker::Model;
+use tp_ancestry::{Ancestry, PastSet};
 
 /// The places in applied order, from 0, of the changes of a past.
 #[derive(Drop)]
@@ -31,4 +35,18 @@ impl Past {
     {
         self.places.as_slice()
     }
+}
+
+/// The places that a past has.
+pub(crate) fn places_in(ancestry: &Ancestry, past_set: &PastSet) -> Result<Vec<u32>, AllocError>
+    requires { IsPastSetIn past_set.now ancestry.now.changes }
+    ensures { IfOk result (λ v. v.items ≡ places_from 0 (bits past_set.now ancestry.now.changes)) }
+{
+    let mut places = Vec::new(ancestry.alloc());
+    for i in 0..ancestry.len() {
+        if past_set.holds(ancestry, i) {
+            places.push(i as u32)?;
+        }
+    }
+    Ok(places)
 }

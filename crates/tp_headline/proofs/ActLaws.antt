@@ -1,5 +1,5 @@
 -- What acts keep of a world of lists, and what lasts in it.
-use Rattle.tp_headline.proofs.Common.{◌≡◌, ◌⊎◌, inl, inr, ℕ, List, [], ◌∷◌, ◌++◌, true, Some, refl, sym, ap, ◌∙◌, subst, append-nil, append_assoc, In, AllIn, SameMembers, In-append, In-left, In-push, In-right, trace_keeps, same_actor, same_actor-same, Hash, ChangeParts, IsTextOf, text_at_all_heads, text_of_a_set, heads, has_all, past, Sound, has_all-heads, past-heads, has_all-more, past-In, Fits-whole, past-same, Fits-at, Sound-before, Sound-push, deps_first, deps_there, sound_pasts, Act, ActStep, ActSteps, Coherent, HasList, IsFaithful, Lasts, Lists, ReadRecord, add_change, add_list, add_read, no_lists, seen, set_list}
+use Rattle.tp_headline.proofs.Common.{◌≡◌, ◌⊎◌, inl, inr, ℕ, List, [], ◌∷◌, ◌++◌, true, Some, refl, sym, ap, ◌∙◌, subst, append-nil, append_assoc, In, AllIn, SameMembers, In-append, In-left, In-push, In-right, trace_keeps, same_actor, same_actor-same, Hash, ChangeParts, IsTextOf, text_at_all_heads, text_of_a_set, heads, has_all, past, Sound, has_all-heads, past-heads, has_all-more, past-In, Fits-whole, past-same, Fits-at, Sound-before, Sound-push, deps_first, deps_there, sound_pasts, Act, ActStep, ActSteps, Coherent, HasList, IsFaithful, Lasts, Lists, ReadRecord, add_change, add_list, add_read, no_lists, seen_changes, set_list}
 use Rattle.tp_list.proofs.Members.{SameMembers-sym}
 use Rattle.tp_headline.specs.Headline.{MayMake, Nothing, Join, Fork, Make, Strand, Take, Read, ReadAt}
 use Rattle.tp_headline.proofs.PlaceLaws.{slice_get-left, slice_get-push, slice_get-set, slice_get-set_either, slice_get-set_same}
@@ -86,19 +86,19 @@ made_stays : (s s' : Lists) → Later s s' → AllIn s.made s'.made
 made_stays s s' later c i = subst (λ l. In c l) (sym later.made.1) (In-left c s.made later.made.0 i)
 
 -- what a read saw stays the same
-seen_stays : (s s' : Lists) (r : ReadRecord) → Later s s' → Sound s'.made → has_all s.made r.heads ≡ true → seen s' r ≡ seen s r
+seen_stays : (s s' : Lists) (r : ReadRecord) → Later s s' → Sound s'.made → has_all s.made r.heads ≡ true → seen_changes s' r ≡ seen_changes s r
 seen_stays s s' r later sound known =
     ap (λ C. past C r.heads) later.made.1 ∙ Sound-before s.made later.made.0 r.heads known (subst Sound later.made.1 sound)
 
 faithful_stays : (s s' : Lists) (r : ReadRecord) → Later s s' → Sound s'.made → IsFaithful s r → IsFaithful s' r
 faithful_stays s s' r later sound h =
     let same = seen_stays s s' r later sound h.known in
-    let on = later.lists r.peer h.list h.stands in
+    let on = later.lists r.peer h.list h.present in
     record {
       known = has_all-more s.made s'.made r.heads (made_stays s s' later) h.known;
       text = subst (λ C. IsTextOf C r.text) (sym same) h.text;
       list = h.list ++ on.0;
-      stands = on.1;
+      present = on.1;
       has = λ c i. In-left c h.list on.0 (h.has c (subst (λ C. In c C) same i));
     }
 
@@ -138,7 +138,7 @@ read_coheres s n C H text h there known is =
       known = has_all-more C s.made H made known;
       text = (text_of_a_set (past C H) (past s.made H) text same).0 is;
       list = C;
-      stands = there;
+      present = there;
       has = λ c i. past-In C H c (same.back c i);
     } in
     coheres s s' h (read_later s n H text) h.sound (λ m D i. inl i) (λ r i. elim (In-push r s.reads new i) [ inl old ↦ inl old | inr is_new ↦ inr (subst (λ x. IsFaithful s' x) (sym is_new) faithful) ])
@@ -184,7 +184,7 @@ shows_all : (s : Lists) (n : ℕ) (C : List ChangeParts) → Coherent s → HasL
 shows_all s n C h there = subst (λ l. SameMembers (past s.made (heads C)) l) (past-heads C (deps_first C (h.lists n C there))) (shows_past s n C (heads C) h there (has_all-heads C))
 
 sees_all : (s m s' : Lists) (acts : List Act) (n : ℕ) (C : List ChangeParts) (text : List ℕ) → Coherent s → ActSteps s acts m → HasList s n C → ActStep m (Read n text) s'
-    → (r : ReadRecord) × (s'.reads ≡ m.reads ++ r ∷ []) × (r.text ≡ text) × AllIn C (seen s' r)
+    → (r : ReadRecord) × (s'.reads ≡ m.reads ++ r ∷ []) × (r.text ≡ text) × AllIn C (seen_changes s' r)
 sees_all s m s' acts n C text h steps there step =
     let D = step.0 in
     let on = (steps_later s acts m steps).lists n C there in
@@ -207,12 +207,12 @@ coherent_lasts s h = record {
   reads = λ acts s' r steps i.
       let later = steps_later s acts s' steps in
       let f = h.reads r i in
-      let on = later.lists r.peer f.list f.stands in (
+      let on = later.lists r.peer f.list f.present in (
         subst (λ l. In r l) (sym later.reads.1) (In-left r s.reads later.reads.0 i),
         seen_stays s s' r later (steps_cohere s acts s' h steps).sound f.known,
         f.list ++ on.0,
         on.1,
         λ c j. In-left c f.list on.0 (f.has c j),
       );
-  closed = λ r i c j. deps_there (seen s r) (sound_pasts s.made h.sound r.heads) c j;
+  closed = λ r i c j. deps_there (seen_changes s r) (sound_pasts s.made h.sound r.heads) c j;
 }

@@ -1,7 +1,7 @@
 -- What a peer of a world holds once it took what came.
-use Rattle.tp_headline.proofs.Common.{◌≡◌, ◌⊎◌, inl, inr, ◌<◌, List, [], ◌∷◌, ◌++◌, length, cond, Bool, true, false, Option, None, IsSome, refl, sym, ap, ◌∙◌, subst, append_assoc, In, AllIn, In-append, In-left, In-right, In-split, truth, never, not_true, same_actor, same_actor-same, ChangeParts, hash_of, absent, cause, clashes, most_changes, HashesApart, has, has_all, past, Fits, Sound, cause-from_Fits, has-In, In-has, has_all-more, past-In, Fits-part, past-same, Fits-at, Fits-past, Sound-before, Sound-prefix, hashes_apart, sound_pasts, AppendsRecord, PeerData, Done, Report, at_end, Takes, journal_of, receiver_of, World, Carried, IsCarried}
-use Rattle.tp_graph.specs.declared.error.GraphError.{GraphError}
-use Rattle.tp_graph.proofs.ClashLaws.{clash_of, In-clashes}
+use Rattle.tp_headline.proofs.Common.{◌≡◌, ◌⊎◌, inl, inr, ◌<◌, List, [], ◌∷◌, ◌++◌, length, cond, Bool, true, false, Option, None, IsSome, refl, sym, ap, ◌∙◌, subst, append_assoc, In, AllIn, In-append, In-left, In-right, In-split, truth, never, not_true, same_actor, same_actor-same, ChangeParts, hash_of, absent, cause, clashes, most_changes, HashesApart, has, has_all, past, Fits, Sound, cause-from_Fits, has-In, In-has, has_all-more, past-In, Fits-part, past-same, Fits-at, Fits-past, Sound-before, Sound-prefix, hashes_apart, sound_pasts, AppendsRecord, PeerState, Done, Report, at_end, ReceivesAndAppends, journal_of, receiver_of, World, WorldInvariant, IsCarried}
+use Rattle.tp_history.specs.declared.error.GraphError.{GraphError}
+use Rattle.tp_history.proofs.ClashLaws.{clash_of, In-clashes}
 use Rattle.tp_receive.proofs.ResultLaws.{results}
 
 -- ---- what was made fits wherever its dependencies are
@@ -17,8 +17,8 @@ one_of_each M c d sound i j actor seq =
       | inl before ↦ never (In-clashes A c d before actor seq) (Fits-at A c B whole).free
       | inr rest ↦ elim rest [
         | inl same ↦ same
-        | inr behind ↦
-            let t = In-split d B behind in
+        | inr beyond ↦
+            let t = In-split d B beyond in
             let regrouped : A ++ c ∷ B ≡ (A ++ c ∷ t.0) ++ d ∷ t.1 = ap (λ l. A ++ c ∷ l) t.2 ∙ sym (append_assoc A (c ∷ t.0) (d ∷ t.1)) in
             let fit = Fits-at (A ++ c ∷ t.0) d t.1 (subst Sound regrouped whole) in
             let e : d.actor ≡ c.actor = same_actor-same d.actor c.actor actor in
@@ -64,7 +64,7 @@ ready_is_there M S c sound s all i deps few refused = elim (truth (has S (hash_o
 abbrev pub HasReady : List ChangeParts → List ChangeParts → Type 0
 HasReady K C = length C < most_changes → (c : ChangeParts) → In c K → has_all C c.deps ≡ true → In c C
 
-pub takes_ready : (w : World) (p : PeerData) (K : List ChangeParts) (r : Report) (p' : PeerData) → Carried w → IsCarried w p → AllIn (p.waiting ++ K) w.made → Takes p K (Done r) p' → HasReady K p'.applied × AllIn p.applied p'.applied
+pub takes_ready : (w : World) (p : PeerState) (K : List ChangeParts) (r : Report) (p' : PeerState) → WorldInvariant w → IsCarried w p → AllIn (p.waiting ++ K) w.made → ReceivesAndAppends p K (Done r) p' → HasReady K p'.applied × AllIn p.applied p'.applied
 takes_ready w p K r p' h q came t =
     let apart : HashesApart (p.waiting ++ K) = λ c d i j e. hashes_apart w.made h.coherent.sound c d (came c i) (came d j) e in
     let x = (results AppendsRecord (journal_of p) p.applied p.waiting K (at_end (receiver_of p') r) q.history.sound apart t.receives.space t.receives.run t.receives.ends).receives in
@@ -73,7 +73,7 @@ takes_ready w p K r p' h q came t =
     let ready : HasReady K S = λ few c i deps. ready_is_there w.made S c h.coherent.sound x.sound all (came c (In-right c p.waiting K i)) deps few (x.closed c (In-right c p.waiting K i)) in
     (ready, λ c i. subst (λ l. In c l) (sym x.entered.begins) (In-left c p.applied x.new i))
 
--- what is there with all that came has all of a list of which the rest was there
+-- what is there with all that came has all of a list, where the rest of it was there
 pub all_arrive : (S K P Q : List ChangeParts) → Sound (P ++ Q) → ((c : ChangeParts) → In c Q → In c S ⊎ In c K) → AllIn P S → HasReady K S → length S < most_changes → AllIn Q S
 all_arrive S K P [] sound came there ready few c i = absurd i
 all_arrive S K P (d ∷ Q) sound came there ready few c i =

@@ -1,5 +1,5 @@
 -- What each event makes of a world that is carried, and which act it is.
-use Rattle.tp_headline.proofs.Common.{◌≡◌, inl, inr, ℕ, List, [], ◌∷◌, ap, suc, length, Some, refl, sym, ◌∙◌, subst, ◌++◌, In, Act, Actor, DocId, Hash, ChangeParts, hash_of, heads, no_device, IsDocId, history_none, PeerData, arming, opened, Alone, Deliver, Merge, Calls, IsCall, after_call, heads_at, made_by, noting, Carried, Event, Start, Fork, Call, Crash, Fail, bytes_of, AreActs, Happens, IsActOf, Next, MayHappen, Answered, Reply, reply_to, GoesOn, World, HasPeer, beginning, lists_of, with_entry, with_made, with_new_peer, with_peer, with_read, with_used}
+use Rattle.tp_headline.proofs.Common.{◌≡◌, inl, inr, ℕ, List, [], ◌∷◌, ap, suc, length, Some, refl, sym, ◌∙◌, subst, ◌++◌, In, Act, Actor, DocId, Hash, ChangeParts, hash_of, heads, no_device, IsDocId, history_none, PeerState, arming, opened_peer, Alone, Deliver, Merge, Calls, IsCall, after_call, heads_at, made_by, noting, WorldInvariant, Event, Start, Fork, Call, Crash, Fail, foreign_bytes_of, AreActs, Happens, IsActOf, Next, MayHappen, Answered, EventReply, reply_to, GoesOn, World, HasPeer, beginning, lists_of, with_entry, with_made, with_new_peer, with_peer, with_read, with_used}
 use Rattle.tp_headline.proofs.ActLaws.{no_lists_coherent}
 use Rattle.tp_headline.proofs.CallLaws.{as_it_was, none_new, runs_of_steps, same_new, steps_sends}
 use Rattle.tp_headline.proofs.CrashMoves.{crash_acts}
@@ -14,10 +14,10 @@ use Rattle.tp_headline.specs.Headline as headline
 
 -- ---- peers that join
 
-started : (w : World) (actor : Actor) (reply : Reply) (w' : World) → Carried w → (In actor w.used → ⊥) → Happens w (Start actor) reply w' → Acts w (Start actor) reply w'
+started : (w : World) (actor : Actor) (reply : EventReply) (w' : World) → WorldInvariant w → (In actor w.used → ⊥) → Happens w (Start actor) reply w' → Acts w (Start actor) reply w'
 started w actor reply w' h fresh (inl new) = record {
   act = headline.Join;
-  carries = becomes w headline.Join w' (with_used (with_new_peer w (opened w.id actor [] no_device)) actor) (new.3 ∙ ap (λ p. with_used (with_new_peer w p) actor) new.1)
+  carries = becomes w headline.Join w' (with_used (with_new_peer w (opened_peer w.id actor [] no_device)) actor) (new.3 ∙ ap (λ p. with_used (with_new_peer w p) actor) new.1)
       (peer_joins w actor [] headline.Join h fresh history_none (λ c i. absurd i) (λ s is. is));
   is = subst (λ r. IsActOf w (Start actor) r headline.Join) (sym new.2) refl;
 }
@@ -27,13 +27,13 @@ started w actor reply w' h fresh (inr refused) = record {
   is = subst (λ r. IsActOf w (Start actor) r headline.Nothing) (sym refused.2) tt;
 }
 
-forked : (w : World) (n : ℕ) (actor : Actor) (reply : Reply) (w' : World) → Carried w → (In actor w.used → ⊥) → Happens w (Fork n actor) reply w' → Acts w (Fork n actor) reply w'
+forked : (w : World) (n : ℕ) (actor : Actor) (reply : EventReply) (w' : World) → WorldInvariant w → (In actor w.used → ⊥) → Happens w (Fork n actor) reply w' → Acts w (Fork n actor) reply w'
 forked w n actor reply w' h fresh s = elim s.2 [
   | inl new ↦
       let of = s.0 in
       let q = h.peers n of s.1 in
-      let fork : PeerData = opened w.id actor of.applied no_device in
-      let is : new.0 ≡ fork = new.1.is ∙ ap (λ i. opened i actor of.applied no_device) q.id in
+      let fork : PeerState = opened_peer w.id actor of.applied no_device in
+      let is : new.0 ≡ fork = new.1.is ∙ ap (λ i. opened_peer i actor of.applied no_device) q.id in
       record {
         act = headline.Fork n;
         carries = becomes w (headline.Fork n) w' (with_used (with_new_peer w fork) actor) (new.3 ∙ ap (λ x. with_used (with_new_peer w x) actor) is)
@@ -56,23 +56,23 @@ act_called (peer.Text text) (peer.ReadAt H) n new made = headline.ReadAt n H tex
 act_called answer call n new made = act_by n new made
 
 -- a peer that was read entered nothing
-text_noted : (w v : World) (n : ℕ) (p p' : PeerData) (text : List ℕ) (made : peer.Call) (new whole : List ChangeParts) → HasPeer v n p' → p'.applied ≡ p.applied ++ new → peer.Runs p made (peer.Text text) p'
+text_noted : (w v : World) (n : ℕ) (p p' : PeerState) (text : List ℕ) (made : peer.Call) (new whole : List ChangeParts) → HasPeer v n p' → p'.applied ≡ p.applied ++ new → peer.Runs p made (peer.Text text) p'
     → Carries w (act_by n new (made_by made whole)) v → Carries w (act_called (peer.Text text) made n new (made_by made whole)) (with_read v n (heads_at p made) text)
 text_noted w v n p p' text peer.Read new whole there grown h on =
     let H = heads p.applied in
-    let stands : HasPeer v n p = subst (λ x. HasPeer v n x) h.1 there in
+    let present : HasPeer v n p = subst (λ x. HasPeer v n x) h.1 there in
     let nothing = subst (λ l. Carries w (act_by n l []) v) (none_new p p' new grown (as_it_was p p' h.1)) on in
     let read = headline.Read n text in
-    acts_after w v read (with_read v n H text) nothing (text_is_read v n H text read on.carried (p.applied, has_list v n p stands, h.0, refl))
+    acts_after w v read (with_read v n H text) nothing (text_is_read v n H text read on.carried (p.applied, has_list v n p present, h.0, refl))
 text_noted w v n p p' text (peer.ReadAt H) new whole there grown h on =
-    let stands : HasPeer v n p = subst (λ x. HasPeer v n x) h.2 there in
+    let present : HasPeer v n p = subst (λ x. HasPeer v n x) h.2 there in
     let nothing = subst (λ l. Carries w (act_by n l []) v) (none_new p p' new grown (as_it_was p p' h.2)) on in
     let read = headline.ReadAt n H text in
-    acts_after w v read (with_read v n H text) nothing (text_is_read v n H text read on.carried (p.applied, has_list v n p stands, h.0, h.1, refl))
+    acts_after w v read (with_read v n H text) nothing (text_is_read v n H text read on.carried (p.applied, has_list v n p present, h.0, h.1, refl))
 text_noted w v n p p' text made new whole there grown h on = absurd h
 
 -- what is noted of an answer
-noted : (w v : World) (n : ℕ) (p p' : PeerData) (answer : peer.Reply) (made : peer.Call) (new whole : List ChangeParts) → HasPeer v n p' → p'.applied ≡ p.applied ++ new → peer.PeerStep p made answer p'
+noted : (w v : World) (n : ℕ) (p p' : PeerState) (answer : peer.Reply) (made : peer.Call) (new whole : List ChangeParts) → HasPeer v n p' → p'.applied ≡ p.applied ++ new → peer.PeerStep p made answer p'
     → Carries w (act_by n new (made_by made whole)) v → Carries w (act_called answer made n new (made_by made whole)) (noting v n (heads_at p made) answer)
 noted w v n p p' (peer.Generated (Some message)) made new whole there grown s on =
     acts_before w (act_by n new (made_by made whole)) v (with_entry v n message.0) on
@@ -81,22 +81,22 @@ noted w v n p p' (peer.Text text) made new whole there grown s on = text_noted w
 noted w v n p p' answer made new whole there grown s on = on
 
 -- an edit that answered a hash made the change with that hash
-made_is : (n : ℕ) (made : peer.Call) (hash : Hash) (p p' : PeerData) (new more whole : List ChangeParts) → peer.Runs p made (peer.Made (Some hash)) p' → p'.applied ≡ p.applied ++ new → whole ≡ new ++ more
+made_is : (n : ℕ) (made : peer.Call) (hash : Hash) (p p' : PeerState) (new more whole : List ChangeParts) → peer.Runs p made (peer.Made (Some hash)) p' → p'.applied ≡ p.applied ++ new → whole ≡ new ++ more
     → (c : ChangeParts) × (hash_of c ≡ hash) × (act_by n new (made_by made whole) ≡ headline.Make n c)
 made_is n (peer.Edit ss time message) hash p p' new more whole h grown entered =
     let c = h.0 in
-    let one : new ≡ c ∷ [] = same_new p p' new (c ∷ []) grown (ap (λ (x : PeerData). x.applied) h.3) in
+    let one : new ≡ c ∷ [] = same_new p p' new (c ∷ []) grown (ap (λ (x : PeerState). x.applied) h.3) in
     (c, sym h.2, ap (λ x. act_by n x whole) one ∙ ap (λ y. act_by n (c ∷ []) y) (entered ∙ ap (λ x. x ++ more) one))
 made_is n made hash p p' new more whole h grown entered = absurd h
 
-alone_is : (w : World) (n : ℕ) (made : peer.Call) (answer : peer.Reply) (p p' : PeerData) (new more whole : List ChangeParts) → peer.PeerStep p made answer p' → p'.applied ≡ p.applied ++ new → whole ≡ new ++ more
+alone_is : (w : World) (n : ℕ) (made : peer.Call) (answer : peer.Reply) (p p' : PeerState) (new more whole : List ChangeParts) → peer.PeerStep p made answer p' → p'.applied ≡ p.applied ++ new → whole ≡ new ++ more
     → IsActOf w (Call n (Alone made)) (Answered answer) (act_called answer made n new (made_by made whole))
 alone_is w n peer.Read (peer.Text text) p p' new more whole s grown entered = refl
 alone_is w n (peer.ReadAt H) (peer.Text text) p p' new more whole s grown entered = refl
 alone_is w n made (peer.Made (Some hash)) p p' new more whole s grown entered = made_is n made hash p p' new more whole (runs_of_steps p made (peer.Made (Some hash)) p' s (λ e. cc)) grown entered
 alone_is w n made answer p p' new more whole s grown entered = tt
 
-alone_replied : (w : World) (k n : ℕ) (made : peer.Call) (answer : peer.Reply) (p p' : PeerData) (new more whole : List ChangeParts) → peer.PeerStep p made answer p' → p'.applied ≡ p.applied ++ new → whole ≡ new ++ more
+alone_replied : (w : World) (k n : ℕ) (made : peer.Call) (answer : peer.Reply) (p p' : PeerState) (new more whole : List ChangeParts) → peer.PeerStep p made answer p' → p'.applied ≡ p.applied ++ new → whole ≡ new ++ more
     → IsActOf w (Call n (Alone made)) (reply_to k answer) (act_called answer made n new (made_by made whole))
 alone_replied w k n made (peer.Generated (Some message)) p p' new more whole s grown entered = tt
 alone_replied w k n made answer p p' new more whole s grown entered = alone_is w n made answer p p' new more whole s grown entered
@@ -109,7 +109,7 @@ deliver_replied : (w : World) (k n entry : ℕ) (answer : peer.Reply) (a : Act) 
 deliver_replied w k n entry (peer.Generated (Some message)) a = tt
 deliver_replied w k n entry answer a = tt
 
-call_replied : (w : World) (k n : ℕ) (named : call.Call) (made : peer.Call) (answer : peer.Reply) (p p' : PeerData) (new more whole : List ChangeParts) → IsCall w named made → peer.PeerStep p made answer p'
+call_replied : (w : World) (k n : ℕ) (named : call.EventCall) (made : peer.Call) (answer : peer.Reply) (p p' : PeerState) (new more whole : List ChangeParts) → IsCall w named made → peer.PeerStep p made answer p'
     → p'.applied ≡ p.applied ++ new → whole ≡ new ++ more → IsActOf w (Call n named) (reply_to k answer) (act_called answer made n new (made_by made whole))
 call_replied w k n (Alone own) made answer p p' new more whole is s grown entered =
     subst (λ (m : peer.Call). IsActOf w (Call n (Alone own)) (reply_to k answer) (act_called answer m n new (made_by m whole))) (sym is.0)
@@ -117,22 +117,22 @@ call_replied w k n (Alone own) made answer p p' new more whole is s grown entere
 call_replied w k n (Merge from) made answer p p' new more whole is s grown entered = merge_replied w k n from answer (act_called answer made n new (made_by made whole))
 call_replied w k n (Deliver entry) made answer p p' new more whole is s grown entered = deliver_replied w k n entry answer (act_called answer made n new (made_by made whole))
 
-called : (w : World) (n : ℕ) (named : call.Call) (reply : Reply) (w' : World) → Carried w → MayHappen w (Call n named) → Calls w n named reply w' → Acts w (Call n named) reply w'
+called : (w : World) (n : ℕ) (named : call.EventCall) (reply : EventReply) (w' : World) → WorldInvariant w → MayHappen w (Call n named) → Calls w n named reply w' → Acts w (Call n named) reply w'
 called w n named reply w' h may s =
     let p = s.before in
     let p' = s.after in
     let made = s.made in
-    let q = h.peers n p s.stands in
-    let runs = may world.Stopped n p (inl refl) s.stands in
+    let q = h.peers n p s.present in
+    let runs = may world.Stopped n p (inl refl) s.present in
     let l = left_of w p made s.answer p' h q runs s.steps in
-    let came = all_was_made w named made p h q s.is (λ link bytes is. may world.ForeignChange bytes (ap (λ (x : call.Call). bytes_of (Call n x)) is)) in
-    let m = makes w n p made l.tried l.whole l.others h s.stands runs l.may l.split came (λ c one edit d i same.
+    let came = all_was_made w named made p h q s.is (λ link bytes is. may world.ForeignChange bytes (ap (λ (x : call.EventCall). foreign_bytes_of (Call n x)) is)) in
+    let m = makes w n p made l.tried l.whole l.others h s.present runs l.may l.split came (λ c one edit d i same.
     may world.HashClash c d (would_edit w (Call n named) n named made c refl s.is edit, refl) i same) in
     let v = with_made (with_peer w n p') (made_by made s.kept) in
     let on : Carries w (act_by n l.new (made_by made l.whole)) v = becomes w (act_by n l.new (made_by made l.whole)) v (with_made (with_peer w n p') (made_by made l.whole))
-    (ap (λ K. with_made (with_peer w n p') (made_by made K)) (kept_is p made p' s.kept s.keep l s.recovers)) (peer_left w n p made p' h s.stands runs l came m) in
+    (ap (λ K. with_made (with_peer w n p') (made_by made K)) (kept_is p made p' s.kept s.keep l s.recovers)) (peer_left w n p made p' h s.present runs l came m) in
     let act = act_called s.answer made n l.new (made_by made l.whole) in
-    let next = noted w v n p p' s.answer made l.new l.whole (slice_get-set_same w.peers n p p' s.stands) l.applied s.steps on in
+    let next = noted w v n p p' s.answer made l.new l.whole (slice_get-set_same w.peers n p p' s.present) l.applied s.steps on in
     record {
       act = act;
       carries = becomes w act w' (after_call w n (p, p') made s.answer s.kept) s.left next;
@@ -141,7 +141,7 @@ called w n named reply w' h may s =
 
 -- ---- every event
 
-happens_acts : (w : World) (e : Event) (reply : Reply) (w' : World) → Carried w → MayHappen w e → Happens w e reply w' → Acts w e reply w'
+happens_acts : (w : World) (e : Event) (reply : EventReply) (w' : World) → WorldInvariant w → MayHappen w e → Happens w e reply w' → Acts w e reply w'
 happens_acts w (Start actor) reply w' h may s = started w actor reply w' h (may world.ActorUsed actor refl) s
 happens_acts w (Fork n actor) reply w' h may s = forked w n actor reply w' h (may world.ActorUsed actor refl) s
 happens_acts w (Call n named) reply w' h may s = called w n named reply w' h may s
@@ -152,7 +152,7 @@ happens_acts w (Fail n kept) reply w' h may s = record {
   is = subst (λ r. IsActOf w (Fail n kept) r headline.Nothing) (sym s.2) tt;
 }
 
-pub next_acts : (w : World) (e : Event) (reply : Reply) (w' : World) → Carried w → Next w e reply w' → Acts w e reply w'
+pub next_acts : (w : World) (e : Event) (reply : EventReply) (w' : World) → WorldInvariant w → Next w e reply w' → Acts w e reply w'
 next_acts w e reply w' h (inl refused) = record {
   act = headline.Nothing;
   carries = still w w' h refused.left;
@@ -162,13 +162,13 @@ next_acts w e reply w' h (inr does) = happens_acts w e reply w' h does.may does.
 
 -- ---- runs
 
--- w goes on as w', which is carried, by so many acts.
+-- w goes on as w', which is carried, by `count` acts.
 pub record Continues (w : World) (count : ℕ) (w' : World) : Type 0 where
   pub grows : Grows w w'
-  pub carried : Carried w'
+  pub carried : WorldInvariant w'
   pub acts : AreActs w count w'
 
-pub goes_on_acts : (events : List (Event × Reply)) (w w' : World) → Carried w → GoesOn w events w' → Continues w (length events) w'
+pub goes_on_acts : (events : List (Event × EventReply)) (w w' : World) → WorldInvariant w → GoesOn w events w' → Continues w (length events) w'
 goes_on_acts [] w w' h run = subst (λ x. Continues w 0 x) (sym run) (record { grows = grows_still w; carried = h; acts = record { acts = []; each = refl; steps = refl } })
 goes_on_acts (e ∷ events) w w' h run =
     let m = run.0 in
@@ -180,7 +180,7 @@ goes_on_acts (e ∷ events) w w' h run =
       acts = record { acts = first.act ∷ rest.acts.acts; each = ap suc rest.acts.each; steps = (lists_of m, first.carries.step, rest.acts.steps) };
     }
 
-pub beginning_carried : (id : DocId) → IsDocId id → Carried (beginning id)
+pub beginning_carried : (id : DocId) → IsDocId id → WorldInvariant (beginning id)
 beginning_carried id is = record {
   is_id = is;
   coherent = no_lists_coherent;

@@ -1,7 +1,7 @@
 -- The one list of all elements, and each text that was read as a part of it.
 use Rattle.tp_headline.proofs.Common.{◌≡◌, inl, inr, ℕ, List, [], ◌∷◌, ◌++◌, filter, refl, sym, ap, ◌∙◌, subst, append_assoc, append-nil, In, SameMembers, In-push, In-filter, filter-In, Hash, id_eq, id_eq-flip, ChangeParts, IsTextOf, chars_of, text_of_a_set, past, Sound, past-In, past-more, sound-induct, sound_pasts, Act, ActSteps, Coherent, Lists, no_lists}
 use Rattle.tp_opid.specs.Insert.{Insert}
-use Rattle.tp_opid.specs.Tree.{AreApart, IsNew}
+use Rattle.tp_opid.specs.Tree.{IdsApart, IsNew}
 use Rattle.tp_opid.proofs.Trees.{IsTree-same}
 use Rattle.tp_change.specs.declared.op.Op.{Op}
 use Rattle.tp_change.specs.declared.op.Op.TheVariants as op_of
@@ -9,18 +9,18 @@ use Rattle.tp_change.specs.Operations.{ops_of}
 use Rattle.tp_change.specs.Elements.{element, inserts, inserts_in, deletes, is_inserted}
 use Rattle.tp_change.proofs.ElementLaws.{inserts-more, inserts-push, is_inserted-In, is_inserted-member}
 use Rattle.tp_rga.specs.Order.{IsInOrder}
-use Rattle.tp_rga.specs.Shown.{shown}
-use Rattle.tp_rga.proofs.OneOrder.{one_order, order_exists, order_of_part, order_of_set, stands_once}
-use Rattle.tp_text.specs.Applying.{CanApply}
-use Rattle.tp_document.proofs.ShowingLaws.{one_text}
+use Rattle.tp_rga.specs.Shown.{visible_of}
+use Rattle.tp_rga.proofs.OneOrder.{one_order, order_exists, order_of_part, order_of_set, present_once}
+use Rattle.tp_edit.specs.Applying.{CanApply}
+use Rattle.tp_snapshot.proofs.ShowingLaws.{one_text}
 use Rattle.tp_document.proofs.SoundText.{CanApply-fits}
-use Rattle.tp_graph.proofs.TreeLaws.{inserts_tree}
+use Rattle.tp_history.proofs.TreeLaws.{inserts_tree}
 use Rattle.tp_headline.specs.Headline.{Agrees, Headline, inserted_by}
 use Rattle.tp_headline.proofs.ActLaws.{no_lists_coherent, steps_cohere}
 
--- ---- identifiers apart
+-- ---- different identifiers
 
-apart_push : (S : List Insert) (x : Insert) → AreApart S → IsNew S x.id → AreApart (S ++ x ∷ [])
+apart_push : (S : List Insert) (x : Insert) → IdsApart S → IsNew S x.id → IdsApart (S ++ x ∷ [])
 apart_push [] x apart new = ((λ e i. absurd i), tt)
 apart_push (e ∷ S) x apart new = (
   (λ f i. elim (In-push f S x i) [
@@ -30,18 +30,18 @@ apart_push (e ∷ S) x apart new = (
   apart_push S x apart.1 (λ f i. new f (inr i)),
 )
 
--- operations that may come one after another insert elements apart
-apart_applied : (S : List Insert) (ops : List Op) → AreApart S → CanApply S ops → AreApart (S ++ inserts_in ops)
-apart_applied S [] apart can = subst AreApart (sym (append-nil S)) apart
+-- operations that may come one after another insert elements with different identifiers
+apart_applied : (S : List Insert) (ops : List Op) → IdsApart S → CanApply S ops → IdsApart (S ++ inserts_in ops)
+apart_applied S [] apart can = subst IdsApart (sym (append-nil S)) apart
 apart_applied S (op_of.Insert id after ch ∷ ops) apart can =
     let x = element id after ch in
-    subst AreApart (append_assoc S (x ∷ []) (inserts_in ops)) (apart_applied (S ++ x ∷ []) ops (apart_push S x apart can.0.new) can.1)
+    subst IdsApart (append_assoc S (x ∷ []) (inserts_in ops)) (apart_applied (S ++ x ∷ []) ops (apart_push S x apart can.0.new) can.1)
 apart_applied S (op_of.Delete id target ∷ ops) apart can = apart_applied S ops apart can.1
 
 -- no two inserts of a sound list share an identifier
-pub inserts_apart : (C : List ChangeParts) → Sound C → AreApart (inserts C)
-inserts_apart = sound-induct (λ C. AreApart (inserts C)) tt (λ C c s apart f.
-    subst AreApart (sym (inserts-push C c)) (apart_applied (inserts C) (ops_of c) apart (CanApply-fits C c s f)))
+pub inserts_apart : (C : List ChangeParts) → Sound C → IdsApart (inserts C)
+inserts_apart = sound-induct (λ C. IdsApart (inserts C)) tt (λ C c s apart f.
+    subst IdsApart (sym (inserts-push C c)) (apart_applied (inserts C) (ops_of c) apart (CanApply-fits C c s f)))
 
 -- ---- a part of the list
 
@@ -74,7 +74,7 @@ pub text_agrees : (C : List ChangeParts) (H : List Hash) (L : List Insert) (text
 text_agrees C H L text sound order is =
     let P = past C H in
     let same = one_order (inserts P) is.elements (inserted_by P L) (inserts_tree P (sound_pasts C sound H)) is.order (order_of_past C H L sound order) in
-    is.spells ∙ ap (λ l. chars_of (shown (deletes P) l)) same
+    is.spells ∙ ap (λ l. chars_of (visible_of (deletes P) l)) same
 
 -- equal heads have one text
 pub texts_alike : (C : List ChangeParts) (H K : List Hash) (s t : List ℕ) → Sound C → SameMembers H K → IsTextOf (past C H) s → IsTextOf (past C K) t → s ≡ t
@@ -92,7 +92,7 @@ coherent_headline s h =
       apart = inserts_apart s.made h.sound;
       elements = found.0;
       order = found.1;
-      once = stands_once (inserts s.made) found.0 tree found.1;
+      once = present_once (inserts s.made) found.0 tree found.1;
       one_list = λ other order. one_order (inserts s.made) other found.0 tree order found.1;
       agree = λ r i. text_agrees s.made r.heads found.0 r.text h.sound found.1 (h.reads r i).text;
       alike = λ r q i j same. texts_alike s.made r.heads q.heads r.text q.text h.sound same (h.reads r i).text (h.reads q j).text;

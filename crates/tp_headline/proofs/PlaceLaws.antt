@@ -1,13 +1,13 @@
--- Lists by their numbers, where one member is replaced or one is put behind the last.
+-- Lists by their numbers, where one member is replaced or one is put after the last.
 use Rattle.tp_headline.proofs.Common.{◌≡◌, ◌⊎◌, inl, inr, ℕ, zero, suc, List, [], ◌∷◌, ◌++◌, length, map, Some, slice_set, refl, sym, ap, arith, slice_get}
 
--- what stands where a member was replaced
+-- what is where a member was replaced
 pub slice_get-set_same : {X : Type 0} (xs : List X) (n : ℕ) (x y : X) → slice_get xs n ≡ Some x → slice_get (slice_set xs n y) n ≡ Some y
 slice_get-set_same [] n x y e = absurd cc
 slice_get-set_same (a ∷ xs) zero x y e = refl
 slice_get-set_same (a ∷ xs) (suc n) x y e = slice_get-set_same xs n x y e
 
--- it stands at its number, and the others stay
+-- it is at its number, and the others stay
 pub slice_get-set : {X : Type 0} (xs : List X) (n m : ℕ) (y q : X) → slice_get (slice_set xs n y) m ≡ Some q → ((m ≡ n) × (q ≡ y)) ⊎ ((m ≡ n → ⊥) × (slice_get xs m ≡ Some q))
 slice_get-set [] n m y q e = absurd cc
 slice_get-set (a ∷ xs) zero zero y q e = inl (refl, cc)
@@ -42,7 +42,7 @@ map-slice_set f [] (suc n) x = refl
 map-slice_set f (a ∷ xs) zero x = refl
 map-slice_set f (a ∷ xs) (suc n) x = ap (λ l. f a ∷ l) (map-slice_set f xs n x)
 
--- what is there stays where one is put behind
+-- what is there stays where one is put after it
 pub slice_get-left : {X : Type 0} (xs ys : List X) (n : ℕ) (x : X) → slice_get xs n ≡ Some x → slice_get (xs ++ ys) n ≡ Some x
 slice_get-left [] ys n x e = absurd cc
 slice_get-left (a ∷ xs) ys zero x e = e

@@ -16,21 +16,21 @@ use Rattle.tp_headline.specs.Call as call
 pub data Event : Type 0 where
   Start : Actor → Event
   Fork : ℕ → Actor → Event
-  Call : ℕ → call.Call → Event
-  Crash : ℕ → Option call.Call → ℕ → Actor → Event
+  Call : ℕ → call.EventCall → Event
+  Crash : ℕ → Option call.EventCall → ℕ → Actor → Event
   Fail : ℕ → ℕ → Event
 
 -- ---- what an event names
 
 -- the peer that makes a call in an event, and the call
-abbrev pub called_in : Event → Option (ℕ × call.Call)
+abbrev pub called_in : Event → Option (ℕ × call.EventCall)
 called_in (Call n made) = Some (n, made)
 called_in (Crash n (Some made) kept actor) = Some (n, made)
 called_in _ = None
 
 -- the peers that a call names beside the one that makes it: the one at the other end of its link, or the one from which
 -- it merges
-abbrev pub named_by : call.Call → List ℕ
+abbrev pub named_by : call.EventCall → List ℕ
 named_by (call.Alone (peer.Receive link bytes)) = link ∷ []
 named_by (call.Alone (peer.Generate link)) = link ∷ []
 named_by (call.Alone (peer.Forget link)) = link ∷ []
@@ -38,7 +38,7 @@ named_by (call.Merge from) = from ∷ []
 named_by _ = []
 
 -- the peers that a call needs beside the one that makes it
-abbrev pub needed_by : call.Call → List ℕ
+abbrev pub needed_by : call.EventCall → List ℕ
 needed_by (call.Merge from) = from ∷ []
 needed_by _ = []
 
@@ -61,16 +61,16 @@ running_of (Crash n (Some made) kept actor) = n ∷ needed_by made
 running_of (Fail n kept) = n ∷ []
 
 -- the entries of the wire that an event names
-abbrev pub entries_of : Event → List ℕ
-entries_of (Call n (call.Deliver entry)) = entry ∷ []
-entries_of (Crash n (Some (call.Deliver entry)) kept actor) = entry ∷ []
-entries_of _ = []
+abbrev pub wire_entries_of : Event → List ℕ
+wire_entries_of (Call n (call.Deliver entry)) = entry ∷ []
+wire_entries_of (Crash n (Some (call.Deliver entry)) kept actor) = entry ∷ []
+wire_entries_of _ = []
 
 -- the bytes of any origin that an event delivers
-abbrev pub bytes_of : Event → Option (List ℕ)
-bytes_of (Call n (call.Alone (peer.Receive link bytes))) = Some bytes
-bytes_of (Crash n (Some (call.Alone (peer.Receive link bytes))) kept actor) = Some bytes
-bytes_of _ = None
+abbrev pub foreign_bytes_of : Event → Option (List ℕ)
+foreign_bytes_of (Call n (call.Alone (peer.Receive link bytes))) = Some bytes
+foreign_bytes_of (Crash n (Some (call.Alone (peer.Receive link bytes))) kept actor) = Some bytes
+foreign_bytes_of _ = None
 
 -- the actor that an event names
 abbrev pub actor_of : Event → Option Actor

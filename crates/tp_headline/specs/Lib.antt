@@ -14,5 +14,5 @@ pub mod Happening
 pub mod Running
 pub mod Refining
 pub mod Follows
-pub mod Carried
+pub mod WorldInvariant
 pub mod Arriving

@@ -1,11 +1,11 @@
 -- A world of peers that edit one document.
 use Rattle.std.specs.Prelude.{◌≡◌, ℕ, List, [], ◌∷◌, ◌++◌, length, drop, map, slice_set, Some}
-use Rattle.tp_headline.specs.Common.{slice_get, Actor, DocId, Hash, ChangeParts, PeerData}
+use Rattle.tp_headline.specs.Common.{slice_get, Actor, DocId, Hash, ChangeParts, PeerState}
 use Rattle.tp_headline.specs.Headline.{Lists, ReadRecord}
 
 -- An entry of the wire: the number of the peer that sent it, and its bytes. It stays there whatever happens to it, so it
 -- may be delivered never, once or many times, to any peer.
-pub record Entry : Type 0 where
+pub record WireEntry : Type 0 where
   pub sender : ℕ
   pub bytes : List ℕ
 
@@ -13,8 +13,8 @@ pub record Entry : Type 0 where
 -- that were made, in the order in which they were; the actors that were named; and the reads, in their order.
 pub record World : Type 0 where
   pub id : DocId
-  pub peers : List PeerData
-  pub wire : List Entry
+  pub peers : List PeerState
+  pub wire : List WireEntry
   pub made : List ChangeParts
   pub used : List Actor
   pub reads : List ReadRecord
@@ -24,25 +24,25 @@ abbrev pub beginning : DocId → World
 beginning id = record { id = id; peers = []; wire = []; made = []; used = []; reads = [] }
 
 -- The peer numbered n is p.
-abbrev pub HasPeer : World → ℕ → PeerData → Type 0
+abbrev pub HasPeer : World → ℕ → PeerState → Type 0
 HasPeer w n p = slice_get w.peers n ≡ Some p
 
 -- The entry numbered n of the wire is e.
-abbrev pub HasEntry : World → ℕ → Entry → Type 0
+abbrev pub HasEntry : World → ℕ → WireEntry → Type 0
 HasEntry w n e = slice_get w.wire n ≡ Some e
 
 -- the world as lists: of each peer only the changes that it has applied; what was made; and the reads
 abbrev pub lists_of : World → Lists
-lists_of w = record { lists = map (λ (p : PeerData). p.applied) w.peers; made = w.made; reads = w.reads }
+lists_of w = record { lists = map (λ (p : PeerState). p.applied) w.peers; made = w.made; reads = w.reads }
 
 -- ---- how a world changes
 
 -- the peer p joins as the last
-abbrev pub with_new_peer : World → PeerData → World
+abbrev pub with_new_peer : World → PeerState → World
 with_new_peer w p = record w { peers = w.peers ++ p ∷ [] }
 
 -- the peer numbered n is p from now on
-abbrev pub with_peer : World → ℕ → PeerData → World
+abbrev pub with_peer : World → ℕ → PeerState → World
 with_peer w n p = record w { peers = slice_set w.peers n p }
 
 -- the peer numbered n sent the bytes
@@ -60,7 +60,3 @@ with_used w actor = record w { used = w.used ++ actor ∷ [] }
 -- the text was read at the heads, at the peer numbered n
 abbrev pub with_read : World → ℕ → List Hash → List ℕ → World
 with_read w n heads text = record w { reads = w.reads ++ record { peer = n; heads = heads; text = text } ∷ [] }
-
--- the changes that are applied in the peer p' beyond those of p
-abbrev pub gained : PeerData → PeerData → List ChangeParts
-gained p p' = drop (length p.applied) p'.applied

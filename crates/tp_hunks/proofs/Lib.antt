@@ -4,3 +4,4 @@ pub mod TouchLaws
 pub mod Leading
 pub mod TrimLaws
 pub mod HunkLaws
+pub mod PrintLaws

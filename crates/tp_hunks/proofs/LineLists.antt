@@ -42,12 +42,12 @@ nothing (y ∷ l) = refl
 pub prefix_at_other_end : (a b : List (Bor (List ℕ))) (i : ℕ) → length b ≤ i → common_prefix_len alike (drop i a) (drop i b) ≡ 0
 prefix_at_other_end a b i le = rw (drop_all i b le) (nothing (drop i a))
 
--- so many lines are alike, where so many are and then no more
+-- `same` lines are alike, where that many are and then no more
 pub start_ends : (a b : List (Bor (List ℕ))) (same : ℕ) → same + common_prefix_len alike (drop same a) (drop same b) ≡ common_prefix_len alike a b
     → common_prefix_len alike (drop same a) (drop same b) ≡ 0 → same ≡ common_prefix_len bytes_eq (texts a) (texts b)
 start_ends a b same so_far none = let all = prefix_of_texts a b in omega arith
 
--- the same at their ends
+-- `same` lines are alike at their ends, where that many are and then no more
 pub end_ends : (a b : List (Bor (List ℕ))) (same : ℕ)
     → same + common_prefix_len alike (drop same (reverse a)) (drop same (reverse b)) ≡ common_prefix_len alike (reverse a) (reverse b)
     → common_prefix_len alike (drop same (reverse a)) (drop same (reverse b)) ≡ 0

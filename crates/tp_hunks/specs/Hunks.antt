@@ -20,7 +20,7 @@ LeadsLines least i j A B (h ∷ hs) =
     × (h.new_at ≡ j + length stay) × (h.new_len ≡ length come)
     × LeadsLines 1 (h.old_at + h.old_len) (h.new_at + h.new_len) X Y hs
 
--- so many lines from one on
+-- `len` lines from one on
 abbrev pub lines_at : {X : Type 0} → ℕ → ℕ → List X → List X
 lines_at at len ls = take len (drop at ls)
 

@@ -1,3 +1,4 @@
 pub mod Lines
 pub mod Touching
 pub mod Hunks
+pub mod Printing

@@ -20,7 +20,7 @@ touched_after g s = record {
 abbrev pub joined_with : Touched → Touched → Touched
 joined_with g t = record g { old_last = t.old_last; new_last = t.new_last }
 
--- The groups of lines that are touched, of which one is g: where no line is between, it is one group.
+-- The groups of lines that are touched. One of them is g: where no line is between, it is one group.
 abbrev pub touched_from : Touched → List Step → List Touched
 touched_from g [] = g ∷ []
 touched_from g (s ∷ ss) =

@@ -1,11 +1,13 @@
-//! Which lines of one text become which lines of another, by replacements that lead from the one to the other.
+//! Which lines of one text become which lines of another, by replacements that lead from the one to the other, and how that is
+//! printed.
 #![tactic(auto)]
 
+mod printing;
 mod replacing;
 mod text_lines;
 mod touching;
 mod trimming;
 
+pub use printing::hunk_text;
 pub use replacing::Replacement;
-pub use text_lines::{lines, lines_at};
 pub use trimming::{Hunk, hunks};

@@ -8,7 +8,7 @@ use std::alloc::{AllocError, Global};
 /// One replacement in a text: some characters go, and others come in their place.
 #[derive(Clone, Copy)]
 pub struct Replacement<'a> {
-    /// How many characters stand before it, in the text that the replacements before it leave.
+    /// How many characters are before it, in the text that the replacements before it leave.
     pub at: usize,
     /// How many characters go.
     pub del: usize,
@@ -34,8 +34,8 @@ fn newlines(text: &[char]) -> usize
     text.iter().filter(|ch| **ch == '\n').count()
 }
 
-// What stands behind so many characters.
-fn behind_first(text: &[char], count: usize) -> &[char]
+// What is after the first `count` characters.
+fn after_first(text: &[char], count: usize) -> &[char]
     requires { count ≤ length text.now }
     ensures { result.now ≡ drop count text.now }
 {
@@ -57,13 +57,13 @@ pub(crate) fn steps(
     let mut after = 0usize;
     for replacement in replacements {
         let stay = replacement.at - after;
-        let behind = &rest[stay..];
+        let beyond = &rest[stay..];
         steps.push(Step {
             stay: newlines(&rest[..stay]),
-            gone: newlines(&behind[..replacement.del]),
+            gone: newlines(&beyond[..replacement.del]),
             come: newlines(replacement.text),
         })?;
-        rest = behind_first(behind, replacement.del);
+        rest = after_first(beyond, replacement.del);
         after = replacement.at + replacement.text.len();
     }
     Ok(steps)

@@ -7,7 +7,7 @@ ghost use Rattle.tp_hunks.specs.Hunks.{lines_at as lines_from, lines_up_to as li
 use std::alloc::{AllocError, Global};
 
 /// The lines of a text: what its newlines part. The last one is empty where the text ends in a newline.
-pub fn lines<'a>(alloc: Global, text: &'a [char]) -> Result<Vec<&'a [char]>, AllocError>
+pub(crate) fn lines<'a>(alloc: Global, text: &'a [char]) -> Result<Vec<&'a [char]>, AllocError>
     ensures { IfOk result
         (λ lines. map (λ l. l.now) lines.items ≡ lines_of_text text.now) }
 {
@@ -25,7 +25,7 @@ fn from_line<'a, 'b>(lines: &'b [&'a [char]], at: usize) -> &'b [&'a [char]]
     }
 }
 
-// The first lines, so many.
+// The first `len` lines, or all where there are fewer.
 fn first_lines<'a, 'b>(lines: &'b [&'a [char]], len: usize) -> &'b [&'a [char]]
     ensures { result.now ≡ take len lines.now }
 {
@@ -36,8 +36,8 @@ fn first_lines<'a, 'b>(lines: &'b [&'a [char]], len: usize) -> &'b [&'a [char]]
     }
 }
 
-/// So many lines from a place on, as far as there are any.
-pub fn lines_at<'a, 'b>(lines: &'b [&'a [char]], at: usize, len: usize) -> &'b [&'a [char]]
+/// `len` lines from a place on, as far as there are any.
+pub(crate) fn lines_at<'a, 'b>(lines: &'b [&'a [char]], at: usize, len: usize) -> &'b [&'a [char]]
     ensures { result.now ≡ lines_from at len lines.now }
 {
     first_lines(from_line(lines, at), len)

@@ -37,7 +37,7 @@ fn touched_after(group: &Touched, step: &Step) -> Touched
 }
 
 // The lines that were touched, and these too.
-fn joined(group: &Touched, more: &Touched) -> Touched
+fn lines_of_both(group: &Touched, more: &Touched) -> Touched
     ensures { result ≡ joined_with group.now more.now }
 {
     Touched {
@@ -68,7 +68,7 @@ pub(crate) fn touched_lines(alloc: Global, steps: &[Step]) -> Result<Vec<Touched
     for step in &steps[1..] {
         let next = touched_after(&group, step);
         if step.stay <= 1 {
-            group = joined(&group, &next);
+            group = lines_of_both(&group, &next);
         } else {
             groups.push(group)?;
             group = next;

@@ -40,7 +40,7 @@ fn hunk_of(old: &[&[char]], new: &[&[char]], group: &Touched) -> Hunk
     }
 }
 
-// Puts the hunk behind the others, if it changes anything.
+// Puts the hunk after the others, if it changes anything.
 fn put_hunk(hunks: &mut Vec<Hunk>, hunk: Hunk) -> Result<(), AllocError>
     ensures { OnOk result (hunks.new.items ≡ hunks.old.items ++ hunk_if_any hunk) }
 {
@@ -67,10 +67,10 @@ fn hunks_in(
     Ok(hunks)
 }
 
-/// The hunks from an old text to a new one, by the replacements that lead from the one to the other: they rise, a line at
-/// least is between two of them, each changes something, and each is of lines that replacements touch, where a replacement
-/// touches the lines from that of its first character up to that after its last one. Lines that are alike at the start or
-/// the end of what is touched are left out, and there are no hunks where the texts are the same.
+/// The hunks from an old text to a new one, by the replacements that lead from the one to the other. They rise, at
+/// least one line is between two of them, and each changes something. Each is of lines that replacements touch: a
+/// replacement touches the lines from that of its first character up to that after its last one. Lines that are alike
+/// at the start or the end of what is touched are left out, and there are no hunks where the texts are the same.
 ///
 /// A pass over both texts.
 pub fn hunks(

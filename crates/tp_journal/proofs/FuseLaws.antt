@@ -3,7 +3,7 @@ use Rattle.std.proofs.Common.{◌≡◌, ℕ, ◌∙◌, List, ◌++◌, take, B
 use Rattle.std.specs.Prelude.{IsErrAnd, IsOk, IsOkUnless, OnErr, OnOk, is_some}
 use Rattle.tp_journal.specs.declared.error.JournalError.{JournalError}
 use Rattle.tp_journal.specs.declared.error.JournalError.TheVariants.{Io, OutOfMemory}
-use Rattle.tp_journal.specs.Journal.{CountsFailure, Device, FuseState, LeavesKept, LeavesPart, with_failure, without_fuse}
+use Rattle.tp_journal.specs.Journal.{CountsFailure, Device, FuseState, RefusesArmedAppend, RefusesAppend, with_failure, without_fuse}
 
 -- the device of the journal
 abbrev pub device_of : FuseState → Device
@@ -15,7 +15,7 @@ device_of j = record { failures = j.failures; can_fail = j.cut; fuse = j.append 
 pub record Appended {T : Type 0} (j : FuseState) (r : Result T JournalError) (bytes : List ℕ) (j' : FuseState) : Type 0 where
   pub ok : OnOk r (j'.content ≡ j.content ++ bytes)
   pub quiet : OnOk r (device_of j' ≡ without_fuse (device_of j))
-  pub part : IfErr r (λ e. LeavesPart e j.content j'.content bytes)
+  pub part : IfErr r (λ e. RefusesAppend j.content bytes e j'.content)
   pub counts : IfErr r (λ e. CountsFailure true e (device_of j) (device_of j'))
 
 quiet_device : (j : FuseState) (bytes : List ℕ) → j.append ≡ None → device_of (record j { content = j.content ++ bytes }) ≡ without_fuse (device_of j)
@@ -32,7 +32,7 @@ unarmed_append {T} j j' (Ok x) bytes none h = record {
 unarmed_append {T} j j' (Err Io) bytes none h = absurd (let e = h.0 in cc)
 unarmed_append {T} j j' (Err OutOfMemory) bytes none h = record { ok = tt; quiet = tt; part = ap (λ (k : FuseState). k.content) h.2; counts = ap device_of h.2 }
 
-armed_append : {T : Type 0} (j j' : FuseState) (r : Result T JournalError) (bytes : List ℕ) (kept : ℕ) → j.append ≡ Some kept → IsErrAnd r (λ e. LeavesKept e kept bytes j j') → Appended j r bytes j'
+armed_append : {T : Type 0} (j j' : FuseState) (r : Result T JournalError) (bytes : List ℕ) (kept : ℕ) → j.append ≡ Some kept → IsErrAnd r (λ e. RefusesArmedAppend j kept bytes e j') → Appended j r bytes j'
 armed_append {T} j j' (Ok x) bytes kept some h = absurd h
 armed_append {T} j j' (Err Io) bytes kept some h = record {
   ok = tt;
@@ -48,12 +48,12 @@ armed_append {T} j j' (Err Io) bytes kept some h = record {
 armed_append {T} j j' (Err OutOfMemory) bytes kept some h = record { ok = tt; quiet = tt; part = ap (λ (k : FuseState). k.content) h; counts = ap device_of h }
 
 append_by : {T : Type 0} (a : Option ℕ) (j j' : FuseState) (r : Result T JournalError) (bytes : List ℕ) → j.append ≡ a
-    → ((kept : ℕ) → j.append ≡ Some kept → IsErrAnd r (λ e. LeavesKept e kept bytes j j'))
+    → ((kept : ℕ) → j.append ≡ Some kept → IsErrAnd r (λ e. RefusesArmedAppend j kept bytes e j'))
     → (j.append ≡ None → IsOkUnless r OutOfMemory × OnOk r (j' ≡ record j { content = j.content ++ bytes }) × OnErr r (j' ≡ j)) → Appended j r bytes j'
 append_by {T} None j j' r bytes is armed unarmed = unarmed_append j j' r bytes is (unarmed is)
 append_by {T} (Some kept) j j' r bytes is armed unarmed = armed_append j j' r bytes kept is (armed kept is)
 
 pub fused_append : {T : Type 0} (j j' : FuseState) (r : Result T JournalError) (bytes : List ℕ)
-    → ((kept : ℕ) → j.append ≡ Some kept → IsErrAnd r (λ e. LeavesKept e kept bytes j j'))
+    → ((kept : ℕ) → j.append ≡ Some kept → IsErrAnd r (λ e. RefusesArmedAppend j kept bytes e j'))
     → (j.append ≡ None → IsOkUnless r OutOfMemory × OnOk r (j' ≡ record j { content = j.content ++ bytes }) × OnErr r (j' ≡ j)) → Appended j r bytes j'
 fused_append {T} j j' r bytes armed unarmed = append_by j.append j j' r bytes refl armed unarmed

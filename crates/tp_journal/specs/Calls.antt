@@ -12,7 +12,7 @@ pub record FileCalls : Type 0 where
 abbrev pub nothing_asked : FileCalls
 nothing_asked = record { opened = []; calls = [] }
 
--- what the calls make of the bytes: what a write took is put behind them, and a cut leaves the first ones
+-- what the calls make of the bytes: what a write took is put after them, and a cut leaves the first ones
 abbrev pub content_after : List ℕ → List FileCall → List ℕ
 content_after opened [] = opened
 content_after opened (Write bytes taken ∷ before) = content_after opened before ++ take taken bytes.bytes

@@ -1,5 +1,5 @@
 -- What the calls of a journal leave, by its content and by what is seen of its device.
-use Rattle.std.specs.Prelude.{◌≡◌, ℕ, ◌+◌, ◌-◌, ◌^◌, min, List, ◌++◌, take, Bool, true, false, ◌||◌, ◌&&◌, Option, Some, None, is_some}
+use Rattle.std.specs.Prelude.{◌≡◌, ℕ, ◌+◌, ◌-◌, ◌^◌, min, List, ◌++◌, take, Bool, true, false, ◌||◌, ◌&&◌, Option, Some, None, is_some, IsTrue}
 use Rattle.tp_journal.specs.Calls.{FileCalls}
 use Rattle.tp_journal.specs.declared.error.JournalError.{JournalError}
 use Rattle.tp_journal.specs.declared.error.JournalError.TheVariants.{Io, OutOfMemory}
@@ -23,7 +23,8 @@ no_device = record { failures = 0; can_fail = false; fuse = None }
 abbrev pub failing : ℕ → Device
 failing failures = record { failures = failures; can_fail = true; fuse = None }
 
--- the device where its next append is to fail and to keep so many bytes; and once an append was made, which ends the arming
+-- the device where its next append is to fail and to keep that many bytes; and once an append was made, which ends the
+-- arming
 abbrev pub with_fuse : ℕ → Device → Device
 with_fuse kept device = record device { fuse = Some kept }
 
@@ -44,25 +45,25 @@ fuse_left false fuse = fuse
 
 -- The device failed in a call, an append or another one: it could, or an append was armed to; one failure more was counted. An
 -- append ends the arming, and another call leaves it. Whether a device that can fail can do so from then on is open.
-pub record Fails (is_append : Bool) (before after : Device) : Type 0 where
-  pub could : ((is_append && is_some before.fuse) || before.can_fail) ≡ true
+pub record DeviceFailsOnce (is_append : Bool) (before after : Device) : Type 0 where
+  pub could : IsTrue ((is_append && is_some before.fuse) || before.can_fail)
   pub counted : HasGrown before.failures after.failures
   pub calm : before.can_fail ≡ false → after.can_fail ≡ false
   pub fuse : after.fuse ≡ fuse_left is_append before.fuse
 
 -- what a refused call, an append or another one, did to the device: it failed for `Io`, and for want of memory it is as it was
 abbrev pub CountsFailure : Bool → JournalError → Device → Device → Type 0
-CountsFailure is_append Io before after = Fails is_append before after
+CountsFailure is_append Io before after = DeviceFailsOnce is_append before after
 CountsFailure is_append OutOfMemory before after = after ≡ before
 
 -- The content is what it was, and then a beginning of the bytes.
 abbrev pub GrowsInPart : List ℕ → List ℕ → List ℕ → Type 0
 GrowsInPart before after bytes = (k : ℕ) × (after ≡ before ++ take k bytes)
 
--- what a refused append leaves: where the device failed a beginning of the bytes may stand
-abbrev pub LeavesPart : JournalError → List ℕ → List ℕ → List ℕ → Type 0
-LeavesPart Io before after bytes = GrowsInPart before after bytes
-LeavesPart OutOfMemory before after bytes = after ≡ before
+-- what a refused append leaves: where the device failed a beginning of the bytes may be there
+abbrev pub RefusesAppend : List ℕ → List ℕ → JournalError → List ℕ → Type 0
+RefusesAppend before bytes Io after = GrowsInPart before after bytes
+RefusesAppend before bytes OutOfMemory after = after ≡ before
 
 -- what contracts see of a journal in a file: its content, how often its device failed, and what was asked of the file
 pub record FileState : Type 0 where
@@ -70,8 +71,8 @@ pub record FileState : Type 0 where
   pub failures : ℕ
   pub asked : FileCalls
 
--- what contracts see of a journal that fails when it is told to: its content; how often it failed; how many bytes the next
--- append keeps as it fails, if it is to; and whether the next cut fails
+-- what contracts see of a journal that fails where it is set to: its content; how often it failed; how many bytes the
+-- next append keeps as it fails, if it is to; and whether the next cut fails
 pub record FuseState : Type 0 where
   pub content : List ℕ
   pub failures : ℕ
@@ -82,8 +83,8 @@ pub record FuseState : Type 0 where
 abbrev pub with_failure : FuseState → FuseState
 with_failure j = record j { failures = min (j.failures + 1) (2 ^ 64 - 1) }
 
--- What an append of the bytes leaves of a journal that is armed to keep so many of them, once it was refused so: where the device
--- failed these stand behind the content, and the arming has ended; for want of memory it is as it was.
-abbrev pub LeavesKept : JournalError → ℕ → List ℕ → FuseState → FuseState → Type 0
-LeavesKept Io kept bytes j j' = j' ≡ record (with_failure j) { content = j.content ++ take kept bytes; append = None }
-LeavesKept OutOfMemory kept bytes j j' = j' ≡ j
+-- What an append of the bytes leaves of a journal that is armed to keep `kept` of them, once it was refused so: where
+-- the device failed these are after the content, and the arming has ended; for want of memory it is as it was.
+abbrev pub RefusesArmedAppend : FuseState → ℕ → List ℕ → JournalError → FuseState → Type 0
+RefusesArmedAppend j kept bytes Io j' = j' ≡ record (with_failure j) { content = j.content ++ take kept bytes; append = None }
+RefusesArmedAppend j kept bytes OutOfMemory j' = j' ≡ j

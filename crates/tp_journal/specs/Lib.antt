@@ -1,10 +1,3 @@
-pub mod Layout
-pub mod Reading
-pub mod Recovery
-pub mod Refusals
-pub mod Whole
 pub mod Optional
-pub mod Pieces
-pub mod Laws
 pub mod Journal
 pub mod Calls

@@ -6,14 +6,14 @@ ghost use Rattle.tp_journal.specs.declared.calls.FileCall.{FileCall};
 ghost use Rattle.tp_journal.specs.declared.calls.FileCall.TheVariants.{Write as Wrote, Cut, Sync};
 
 use crate::calls::{Calls, FileCall};
-use crate::content::Content;
-use crate::lock::Lockable;
 use crate::opening::OpenError;
-use crate::pieces::Recovering;
 use std::alloc::Global;
 use std::fs::OpenFile;
 use std::io;
 use std::io::{ErrorKind, Read, Write};
+use tp_file::Lockable;
+use tp_ghost::GhostBytes;
+use tp_recovery::Recovering;
 use tp_rga::Sequence;
 
 /// A file that is appended to, cut and brought to the disk.
@@ -32,7 +32,7 @@ pub(crate) trait JournalFile {
         ensures asks { calls self.new ≡ Wrote (record { bytes = bytes.now }) result ∷ calls self.old }
         ensures written { Appends (written self.old) (written self.new) (take result bytes.now) };
 
-    /// Cuts it to so many bytes. Whether that was done.
+    /// Cuts it to `len` bytes. Whether that was done.
     fn cut(&mut self, len: u64) -> bool
         ensures { calls self.new ≡ Cut len result ∷ calls self.old };
 
@@ -56,7 +56,7 @@ impl<F: Write + OpenFile + Drop> Drop for CalledFile<F> {
 }
 
 impl<F: Write + OpenFile + Drop> CalledFile<F> {
-    /// An open file, of which nothing was asked yet but its bytes.
+    /// An open file. Nothing was asked of it yet but its bytes.
     pub(crate) fn of(file: F) -> CalledFile<F>
         ensures { result.calls.list ≡ [] }
     {
@@ -129,7 +129,7 @@ impl<F: Write + OpenFile + Drop> JournalFile for CalledFile<F> {
 
     fn write(&mut self, bytes: &[u8]) -> usize {
         let taken = write_once(&mut self.file, bytes);
-        let call = FileCall::Write(Content::of(bytes), taken);
+        let call = FileCall::Write(GhostBytes::of(bytes), taken);
         self.calls = Calls::with(&self.calls, &call);
         taken
     }

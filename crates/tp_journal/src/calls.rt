@@ -4,15 +4,15 @@ ghost use Rattle.std.specs.Prelude.{◌≡◌, List, [], ◌∷◌};
 ghost use Rattle.std.specs.Borrow.{ftrue};
 ghost use Rattle.tp_journal.specs.declared.calls.FileCall.{FileCall};
 
-use crate::content::Content;
 use std::marker::Model;
+use tp_ghost::GhostBytes;
 
 /// A call of a file that is appended to, and its answer.
 #[derive(Drop)]
 pub(crate) enum FileCall {
-    /// These bytes were to be written at its end, and so many of them were taken: none where it was refused.
-    Write(Content, usize),
-    /// It was to be cut to so many bytes, and whether it was.
+    /// These bytes were to be written at its end, and this many of them were taken: none where it was refused.
+    Write(GhostBytes, usize),
+    /// It was to be cut to this many bytes, and whether it was.
     Cut(u64, bool),
     /// It was to be brought to the disk, and whether it was.
     Sync(bool),

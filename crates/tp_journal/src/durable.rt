@@ -3,25 +3,25 @@
 ghost use Rattle.std.specs.Prelude.{◌≡◌, ◌⊎◌, [], false, IfOk, IfErr};
 ghost use Rattle.tp_journal.specs.Calls.{IsAllSynced};
 ghost use Rattle.tp_journal.specs.Journal.{failing};
-ghost use Rattle.tp_journal.specs.Recovery.{HasTail, Recovers};
-ghost use Rattle.tp_journal.specs.Refusals.{IsRefusal};
+ghost use Rattle.tp_recovery.specs.Recovery.{HasTail, Recovers};
+ghost use Rattle.tp_recovery.specs.Refusals.{IsJournalFault};
 ghost use Rattle.tp_store.specs.declared.error.StoreError.TheVariants.{OutOfMemory as Lack};
 
 use crate::error::JournalError;
 use crate::file::FileJournal;
 use crate::journal::Journal;
-use crate::lock::Lockable;
 use crate::opening::OpenError;
-use crate::recovering::Recovered;
 use std::alloc::Global;
 use std::fs::OpenFile;
 use std::io::{Read, Write};
 use std::rt::Files;
+use tp_file::Lockable;
+use tp_recovery::Recovered;
 use tp_rga::Sequence;
 use tp_store::StoreError;
 
-/// A journal in a file, all of which is on the disk once [`settle`](Journal::settle) has answered Ok: many appends take one
-/// sync of the file.
+/// A journal in a file, which is all on the disk once [`settle`](Journal::settle) has answered Ok: many appends take
+/// one sync of the file.
 #[derive(Drop)]
 pub struct DurableJournal<F: Write + OpenFile + Drop> {
     file: FileJournal<F>,
@@ -66,7 +66,7 @@ impl<F: Read + Write + OpenFile + Lockable + Drop> DurableJournal<F> {
         ensures tail { IfOk result (λ opened. IfOk opened.1
             (λ r. HasTail opened.0.file.content r.keep r.tail.items)) }
         ensures err { IfOk result (λ opened. IfErr opened.1
-            (λ e. (e ≡ Lack) ⊎ IsRefusal opened.0.file.content e)) }
+            (λ e. (e ≡ Lack) ⊎ IsJournalFault opened.0.file.content e)) }
     {
         match FileJournal::recovering(rt, alloc, path, make) {
             Ok((file, recovered)) => {

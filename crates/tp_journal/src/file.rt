@@ -3,25 +3,24 @@
 ghost use Rattle.std.specs.Prelude.{◌≡◌, ◌⊎◌, ◌+◌, [], ◌++◌, length, OnOk, OnErr, IfOk, IfErr, IfSome, IsOkUnless};
 ghost use Rattle.tp_journal.specs.Calls.{AsksOnce, IsSync, IsAllSynced};
 ghost use Rattle.tp_journal.specs.Journal.{HasGrown, failing};
-ghost use Rattle.tp_journal.specs.Recovery.{HasTail, Recovers};
-ghost use Rattle.tp_journal.specs.Refusals.{IsRefusal};
+ghost use Rattle.tp_recovery.specs.Recovery.{HasTail, Recovers};
+ghost use Rattle.tp_recovery.specs.Refusals.{IsJournalFault};
 ghost use Rattle.tp_journal.specs.declared.error.JournalError.TheVariants.{Io};
 ghost use Rattle.tp_store.specs.declared.error.StoreError.TheVariants.{OutOfMemory as Lack};
 
 use crate::beneath::CalledFile;
-use crate::content::Content;
 use crate::error::JournalError;
 use crate::journal::Journal;
 use crate::kept::Kept;
-use crate::lock::Lockable;
 use crate::opening::OpenError;
-use crate::pieces::Recovering;
-use crate::recovering::Recovered;
 use std::alloc::Global;
 use std::fs::{OpenFile, OpenOptions};
 use std::io::{Read, Write};
 use std::marker::Model;
 use std::rt::Files;
+use tp_file::Lockable;
+use tp_ghost::GhostBytes;
+use tp_recovery::{Recovered, Recovering};
 use tp_rga::Sequence;
 use tp_store::StoreError;
 
@@ -81,14 +80,14 @@ where
 fn recover_from<S: Sequence, F: Read + Write + OpenFile + Drop>(
     alloc: Global,
     file: &mut CalledFile<F>,
-) -> Result<(Content, u64, Result<Recovered<S>, StoreError>), OpenError>
+) -> Result<(GhostBytes, u64, Result<Recovered<S>, StoreError>), OpenError>
     ensures whole { IfOk result (λ read. (read.1 ≡ length read.0.bytes)
         × (file.new.calls.list ≡ file.old.calls.list)
         × IfSome (F.remaining file.old.file) (λ held. read.0.bytes ≡ held)) }
     ensures ok { IfOk result (λ read. IfOk read.2 (λ r.
         Recovers read.0.bytes r.document.id r.document.applied r.keep × (r.document.waiting ≡ []))) }
     ensures tail { IfOk result (λ read. IfOk read.2 (λ r. HasTail read.0.bytes r.keep r.tail.items)) }
-    ensures err { IfOk result (λ read. IfErr read.2 (λ e. (e ≡ Lack) ⊎ IsRefusal read.0.bytes e)) }
+    ensures err { IfOk result (λ read. IfErr read.2 (λ e. (e ≡ Lack) ⊎ IsJournalFault read.0.bytes e)) }
 {
     let mut recovering = Recovering::new(alloc);
     match file.read_into(&mut recovering) {
@@ -118,7 +117,7 @@ impl<F: Read + Write + OpenFile + Lockable + Drop> FileJournal<F> {
         let mut file = open(rt, path, make)?;
         let copy = file.read_whole(alloc)?;
         Ok(FileJournal {
-            kept: Kept::copied(file, copy),
+            kept: Kept::with_copy(file, copy),
             failures: 0,
         })
     }
@@ -143,12 +142,12 @@ impl<F: Read + Write + OpenFile + Lockable + Drop> FileJournal<F> {
         ensures tail { IfOk result (λ opened. IfOk opened.1
             (λ r. HasTail opened.0.content r.keep r.tail.items)) }
         ensures err { IfOk result (λ opened. IfErr opened.1
-            (λ e. (e ≡ Lack) ⊎ IsRefusal opened.0.content e)) }
+            (λ e. (e ≡ Lack) ⊎ IsJournalFault opened.0.content e)) }
     {
         let mut file = open(rt, path, make)?;
         let (content, len, recovered) = recover_from(alloc, &mut file)?;
         let journal = FileJournal {
-            kept: Kept::counted(file, content, len),
+            kept: Kept::with_len(file, content, len),
             failures: 0,
         };
         Ok((journal, recovered))

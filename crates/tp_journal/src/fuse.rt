@@ -1,7 +1,7 @@
-//! A journal in memory whose device fails when it is told to.
+//! A journal in memory whose device fails where it is set to.
 
-ghost use Rattle.std.specs.Prelude.{◌≡◌, ℕ, ◌++◌, length, true, false, None, Some, take, IsErrAnd, IsOk, IsOkUnless, OnErr, OnOk};
-ghost use Rattle.tp_journal.specs.Journal.{LeavesKept, with_failure};
+ghost use Rattle.std.specs.Prelude.{◌≡◌, ℕ, ◌++◌, length, true, false, None, Some, take, IsErrAnd, IsOk, IsOkUnless, OnErr, OnOk, IsTrue};
+ghost use Rattle.tp_journal.specs.Journal.{RefusesArmedAppend, with_failure};
 ghost use Rattle.tp_journal.specs.declared.error.JournalError.TheVariants.{Io, OutOfMemory};
 
 use crate::error::JournalError;
@@ -9,7 +9,7 @@ use crate::journal::Journal;
 use crate::memory::MemJournal;
 use std::marker::Model;
 
-/// A journal in memory whose device fails when it is told to: at the next append, or at the next cut. It can fail where
+/// A journal in memory whose device fails where it is set to: at the next append, or at the next cut. It can fail where
 /// it is armed so, and fails then; once it failed it is as if it had never been armed.
 ///
 /// Contracts see its content, how often its device failed, and how it is armed.
@@ -92,7 +92,7 @@ impl Journal for FuseJournal {
 
     fn append(&mut self, bytes: &[u8]) -> Result<(), JournalError>
         ensures armed { (kept : ℕ) → self.old.append ≡ Some kept
-            → IsErrAnd result (λ e. LeavesKept e kept bytes.now self.old self.new) }
+            → IsErrAnd result (λ e. RefusesArmedAppend self.old kept bytes.now e self.new) }
         ensures unarmed { self.old.append ≡ None → IsOkUnless result OutOfMemory
             × OnOk result (self.new ≡ record self.old { content = self.old.content ++ bytes.now })
             × OnErr result (self.new ≡ self.old) }
@@ -114,7 +114,7 @@ impl Journal for FuseJournal {
     }
 
     fn cut(&mut self, len: u64) -> Result<(), JournalError>
-        ensures armed { self.old.cut ≡ true → (result ≡ Err Io)
+        ensures armed { IsTrue self.old.cut → (result ≡ Err Io)
             × (self.new ≡ record (with_failure self.old) { cut = false }) }
         ensures unarmed { self.old.cut ≡ false → IsOk result
             × (self.new ≡ record self.old { content = take len self.old.content }) }

@@ -1,13 +1,13 @@
 //! What is kept of the content of a file beneath a journal.
 
-ghost use Rattle.std.specs.Prelude.{◌≡◌, ◌≤◌, ℕ, List, [], ◌++◌, length, take, true, false, OnOk, OnErr, IfOk, IfSome};
+ghost use Rattle.std.specs.Prelude.{◌≡◌, ◌≤◌, ℕ, List, [], ◌++◌, length, take, false, OnOk, OnErr, IfOk, IfSome, IsTrue};
 ghost use Rattle.tp_journal.specs.Calls.{AsksOnce, IsCut, IsSync, IsAllSynced, IsWrite, file_content};
 
 use crate::beneath::JournalFile;
-use crate::content::Content;
 use crate::error::JournalError;
 use std::alloc::AllocError;
 use std::marker::Model;
+use tp_ghost::GhostBytes;
 
 /// A file, what was read of it, how many bytes it has, a copy of these, where one is held, and whether a sync failed. Bytes
 /// that have no copy are nowhere in memory.
@@ -15,7 +15,7 @@ use std::marker::Model;
 /// Contracts see what was asked of the file.
 pub(crate) struct Kept<F: JournalFile + Drop> {
     file: F,
-    opened: Content,
+    opened: GhostBytes,
     len: u64,
     copy: Option<Vec<u8>>,
     fails: bool,
@@ -46,7 +46,7 @@ impl<F: JournalFile + Drop> Model for Kept<F> {
         × (k.fails ≡ fails_sync (F.calls k.file)) };
 }
 
-// Puts the bytes behind a copy, if one is held.
+// Puts the bytes after those of a copy, if one is held.
 fn extend(copy: &mut Option<Vec<u8>>, bytes: &[u8]) -> Result<(), AllocError>
     ensures ok { OnOk result ((content : List ℕ) → IfSome copy.old (λ c. c.items ≡ content)
         → IfSome copy.new (λ c. c.items ≡ content ++ bytes.now)) }
@@ -59,7 +59,7 @@ fn extend(copy: &mut Option<Vec<u8>>, bytes: &[u8]) -> Result<(), AllocError>
     }
 }
 
-// Cuts a copy to so many bytes, if one is held.
+// Cuts a copy to `len` bytes, if one is held.
 fn truncate(copy: &mut Option<Vec<u8>>, len: u64)
     ensures { (content : List ℕ) → IfSome copy.old (λ c. c.items ≡ content)
         → IfSome copy.new (λ c. c.items ≡ take len content) }
@@ -71,21 +71,21 @@ fn truncate(copy: &mut Option<Vec<u8>>, len: u64)
 
 impl<F: JournalFile + Drop> Kept<F> {
     /// A file that was just opened, and of whose bytes this is the copy that is held.
-    pub(crate) fn copied(file: F, copy: Vec<u8>) -> Kept<F>
+    pub(crate) fn with_copy(file: F, copy: Vec<u8>) -> Kept<F>
         requires { F.calls file ≡ [] }
         ensures { result ≡ record { opened = copy.items; calls = [] } }
     {
         Kept {
             file,
-            opened: Content::of(copy.as_slice()),
+            opened: GhostBytes::of(copy.as_slice()),
             len: copy.len() as u64,
             copy: Some(copy),
             fails: false,
         }
     }
 
-    /// A file that was just opened and has so many bytes, of which no copy is held.
-    pub(crate) fn counted(file: F, opened: Content, len: u64) -> Kept<F>
+    /// A file that was just opened and has `len` bytes; no copy of them is held.
+    pub(crate) fn with_len(file: F, opened: GhostBytes, len: u64) -> Kept<F>
         requires calls { F.calls file ≡ [] }
         requires len { len ≡ length opened.bytes }
         ensures { result ≡ record { opened = opened.bytes; calls = [] } }
@@ -127,11 +127,11 @@ impl<F: JournalFile + Drop> Kept<F> {
         Ok(count)
     }
 
-    /// Cuts the file to so many bytes, which it has. Whether that was done.
+    /// Cuts the file to `len` bytes, which it has. Whether that was done.
     pub(crate) fn cut(&mut self, len: u64) -> bool
         requires { len ≤ length (file_content self.old) }
         ensures asks { AsksOnce (IsCut len) self.old self.new }
-        ensures done { result ≡ true → file_content self.new ≡ take len (file_content self.old) }
+        ensures done { IsTrue result → file_content self.new ≡ take len (file_content self.old) }
         ensures stays { result ≡ false → file_content self.new ≡ file_content self.old }
     {
         let done = self.file.cut(len);
@@ -145,7 +145,7 @@ impl<F: JournalFile + Drop> Kept<F> {
     /// Brings the file to the disk. Whether that was done; after one sync that failed none is.
     pub(crate) fn sync(&mut self) -> bool
         ensures asks { AsksOnce IsSync self.old self.new }
-        ensures done { result ≡ true → IsAllSynced self.new }
+        ensures done { IsTrue result → IsAllSynced self.new }
         ensures stays { file_content self.new ≡ file_content self.old }
     {
         if self.fails {

@@ -2,13 +2,15 @@
 
 ghost use Rattle.std.specs.Prelude.{◌≡◌, ◌++◌, take, Err, IsOk};
 ghost use Rattle.tp_journal.specs.Journal.{no_device};
-ghost use Rattle.tp_journal.specs.Layout.{journal};
+ghost use Rattle.tp_recovery.specs.Layout.{journal};
 ghost use Rattle.tp_journal.specs.declared.error.JournalError.TheVariants.{OutOfMemory};
 
-use crate::content::Content;
 use crate::error::JournalError;
 use crate::journal::Journal;
+use tp_change::Change;
 use tp_document::Document;
+use tp_ghost::GhostBytes;
+use tp_opid::DocId;
 use tp_rga::Sequence;
 
 /// A journal for a peer whose changes are in memory alone: contracts see its content, and it is nowhere. It takes no
@@ -16,7 +18,14 @@ use tp_rga::Sequence;
 /// as `OutOfMemory`.
 #[derive(Drop)]
 pub struct NullJournal {
-    content: Content,
+    content: GhostBytes,
+}
+
+// The bytes of the journal of a document with the identifier and the changes.
+fn journal_bytes(_id: &DocId, _changes: &[Change]) -> GhostBytes
+    ensures { result.bytes ≡ journal _id.now _changes.now }
+{
+    GhostBytes {}
 }
 
 impl NullJournal {
@@ -25,7 +34,7 @@ impl NullJournal {
         ensures { result.content.bytes ≡ journal document.now.id document.now.applied }
     {
         NullJournal {
-            content: Content::journal(&document.id(), document.changes()),
+            content: journal_bytes(&document.id(), document.changes()),
         }
     }
 }
@@ -41,7 +50,7 @@ impl Journal for NullJournal {
         ensures appended { self.new.content.bytes ≡ self.old.content.bytes ++ bytes.now }
         ensures always { IsOk result }
     {
-        self.content = Content::with(&self.content, bytes);
+        self.content = GhostBytes::with(&self.content, bytes);
         Ok(())
     }
 
@@ -56,7 +65,7 @@ impl Journal for NullJournal {
         ensures cut { self.new.content.bytes ≡ take len self.old.content.bytes }
         ensures always { IsOk result }
     {
-        self.content = Content::first(&self.content, &len);
+        self.content = GhostBytes::first(&self.content, &len);
         Ok(())
     }
 

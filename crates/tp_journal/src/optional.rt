@@ -2,15 +2,15 @@
 
 ghost use Rattle.std.specs.Prelude.{◌≡◌};
 ghost use Rattle.tp_journal.specs.Journal.{no_device};
-ghost use Rattle.tp_journal.specs.Layout.{journal};
+ghost use Rattle.tp_recovery.specs.Layout.{journal};
 ghost use Rattle.tp_journal.specs.Optional.{content_of, device_of};
 
 use crate::durable::DurableJournal;
 use crate::error::JournalError;
 use crate::journal::Journal;
 use crate::null::NullJournal;
-use crate::system::SystemFile;
 use tp_document::Document;
+use tp_file::SystemFile;
 use tp_rga::Sequence;
 
 /// The journal of a document that is in a file, or in memory alone.

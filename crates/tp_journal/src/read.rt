@@ -1,21 +1,27 @@
 //! A journal of bytes that were read, and are nowhere in memory.
 
-ghost use Rattle.std.specs.Prelude.{◌≡◌};
+ghost use Rattle.std.specs.Prelude.{◌≡◌, ◌⊎◌, [], IfOk, IfErr};
 ghost use Rattle.tp_journal.specs.Journal.{no_device};
+ghost use Rattle.tp_recovery.specs.Recovery.{Recovers};
+ghost use Rattle.tp_recovery.specs.Refusals.{IsJournalFault};
+ghost use Rattle.tp_store.specs.declared.error.StoreError.TheVariants.{OutOfMemory as Lack};
 
-use crate::content::Content;
 use crate::error::JournalError;
 use crate::journal::Journal;
 use std::marker::Model;
+use tp_ghost::GhostBytes;
+use tp_recovery::{Recovered, Recovering};
+use tp_rga::Sequence;
+use tp_store::StoreError;
 
-/// The journal of bytes that were recovered from while they came, and none of which is held: for a peer whose changes
+/// The journal of bytes that were recovered from while they came, where none of them is held: for a peer whose changes
 /// another merges. It has no device that could fail, and can be cut; it has no memory for a byte, so an append, and reading
 /// all, are refused as `OutOfMemory`.
 ///
 /// Contracts see its content.
 #[derive(Drop)]
 pub struct ReadJournal {
-    content: Content,
+    content: GhostBytes,
 }
 
 impl Model for ReadJournal {
@@ -27,11 +33,19 @@ impl Model for ReadJournal {
 }
 
 impl ReadJournal {
-    /// The journal of these bytes.
-    pub(crate) fn of(content: Content) -> ReadJournal
-        ensures { result ≡ content.bytes }
+    /// The journal of the bytes that came, with what [`finish`](Recovering::finish) gives of them.
+    pub fn finish<S: Sequence>(
+        recovering: Recovering<S>,
+    ) -> (ReadJournal, Result<Recovered<S>, StoreError>)
+        ensures journal { result.0 ≡ recovering }
+        ensures ok { IfOk result.1 (λ r. Recovers recovering r.document.id r.document.applied r.keep
+            × (r.document.waiting ≡ [])) }
+        ensures err { IfErr result.1 (λ e. (e ≡ Lack) ⊎ IsJournalFault recovering e) }
     {
-        ReadJournal { content }
+        let journal = ReadJournal {
+            content: recovering.content(),
+        };
+        (journal, recovering.finish())
     }
 }
 
@@ -51,7 +65,7 @@ impl Journal for ReadJournal {
     }
 
     fn cut(&mut self, len: u64) -> Result<(), JournalError> {
-        self.content = Content::first(&self.content, &len);
+        self.content = GhostBytes::first(&self.content, &len);
         Ok(())
     }
 

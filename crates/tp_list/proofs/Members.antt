@@ -35,11 +35,11 @@ In-push x xs y h =
 pub In-last : {X : Type 0} (x : X) (xs : List X) → In x (xs ++ x ∷ [])
 In-last x xs = In-right x xs (x ∷ []) (inl refl)
 
--- the same set the other way round
+-- that two lists have the same members holds the other way round
 pub SameMembers-sym : {X : Type 0} (xs ys : List X) → SameMembers xs ys → SameMembers ys xs
 SameMembers-sym xs ys same = record { there = same.back; back = same.there }
 
--- what stands at a place is a member
+-- what is at a place is a member
 pub In-slice_get : {X : Type 0} (xs : List X) (k : ℕ) (x : X) → slice_get xs k ≡ Some x → In x xs
 In-slice_get [] k x e = cc
 In-slice_get (y ∷ xs) zero x e = inl cc
@@ -91,13 +91,13 @@ In-split x [] i = absurd i
 In-split x (y ∷ xs) (inl e) = ([], xs, ap (λ z. z ∷ xs) (sym e))
 In-split x (y ∷ xs) (inr i) = let w = In-split x xs i in (y ∷ w.0, w.1, ap (λ l. y ∷ l) w.2)
 
--- a member stands at some index
+-- a member is at some index
 pub In-index : {X : Type 0} (x : X) (xs : List X) → In x xs → (k : ℕ) × (k < length xs) × ((d : X) → get_or xs k d ≡ x)
 In-index x [] i = absurd i
 In-index x (y ∷ xs) (inl e) = (zero, omega arith, λ d. sym e)
 In-index x (y ∷ xs) (inr i) = let r = In-index x xs i in (suc r.0, omega (arith, r.1), r.2)
 
--- what stands at an index is a member
+-- what is at an index is a member
 pub In-get_or : {X : Type 0} (xs : List X) (k : ℕ) (d : X) → k < length xs → In (get_or xs k d) xs
 In-get_or [] k d h = absurd (omega arith)
 In-get_or (x ∷ xs) zero d h = inl refl
@@ -107,7 +107,7 @@ In-get_or (x ∷ xs) (suc k) d h = inr (In-get_or xs k d (omega arith))
 pub All-member : {X : Type 0} (P : X → Type 0) (xs : List X) → All P xs → (x : X) → In x xs → P x
 All-member P xs all x i = let r = In-index x xs i in subst P (r.2 x) (all r.0 x r.1)
 
--- what stands between two parts is a member
+-- what is between two parts is a member
 pub In-middle : {X : Type 0} (A : List X) (e : X) (B : List X) → In e (A ++ e ∷ B)
 In-middle [] e B = inl refl
 In-middle (x ∷ A) e B = inr (In-middle A e B)

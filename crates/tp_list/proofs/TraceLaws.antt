@@ -24,7 +24,7 @@ module _ {S L : Type 0} (Step : S → L → S → Type 0) where
   trace_keeps P kept s [] t trace p = subst P (sym trace) p
   trace_keeps P kept s (l ∷ ls) t trace p = trace_keeps P kept trace.0 ls t trace.2 (kept s l trace.0 trace.1 p)
 
-  -- the same trace of a relation that has all these steps
+  -- a trace is one of each relation that has all its steps
   pub trace_grows : (More : S → L → S → Type 0) → ((s : S) (l : L) (t : S) → Step s l t → More s l t) → (s : S) (ls : List L) (t : S) → Trace Step s ls t → Trace More s ls t
   trace_grows More more s [] t trace = trace
   trace_grows More more s (l ∷ ls) t trace = (trace.0, more s l trace.0 trace.1, trace_grows More more trace.0 ls t trace.2)

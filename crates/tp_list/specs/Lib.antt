@@ -4,3 +4,4 @@ pub mod Members
 pub mod Rising
 pub mod Traces
 pub mod Utf8
+pub mod FailsFirst

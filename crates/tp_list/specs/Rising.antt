@@ -8,7 +8,7 @@ abbrev pub IsBelowAll : {X : Type 0} → (X → X → Ordering) → X → List X
 IsBelowAll cmp x [] = Unit {0}
 IsBelowAll cmp x (y ∷ ys) = (cmp x y ≡ Less) × IsBelowAll cmp x ys
 
--- Each element is below all that stand after it.
+-- Each element is below all that are after it.
 abbrev pub IsRising : {X : Type 0} → (X → X → Ordering) → List X → Type 0
 IsRising cmp [] = Unit {0}
 IsRising cmp (x ∷ xs) = IsBelowAll cmp x xs × IsRising cmp xs

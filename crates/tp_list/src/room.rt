@@ -4,7 +4,7 @@ ghost use Rattle.std.specs.Prelude.{◌≡◌, ◌≤◌, ◌*◌, IfOk};
 
 use std::alloc::{AllocError, Global};
 
-/// For how many elements a copy of so many has room: for an eighth more, and up to four. What is put behind the copy then
+/// For how many elements a copy of `len` has room: for an eighth more, and up to four. What is put after the copy then
 /// moves it no sooner than it moves a list that grew. A copy of nothing takes no memory.
 pub fn with_room(len: usize) -> usize
     ensures least { len ≤ result }

@@ -1,4 +1,4 @@
-ghost use Rattle.std.specs.Prelude.{◌≡◌, ◌==◌, ◌≤◌, true, length, encode_utf8_all, IfOk, IsOk};
+ghost use Rattle.std.specs.Prelude.{◌≡◌, ◌==◌, ◌≤◌, length, encode_utf8_all, IfOk, IsOk, IsTrue};
 ghost use Rattle.std.specs.Str.{chars, all_scalars};
 ghost use Rattle.std.specs.String.{string_bytes};
 ghost use Rattle.tp_list.specs.Kept.{bytes_of};
@@ -79,7 +79,7 @@ impl Text {
     pub fn as_str(&self) -> &str
         ensures bytes { result.now ≡ encode_utf8_all self.now }
         ensures chars { chars result.now ≡ self.now }
-        ensures scalars { all_scalars self.now ≡ true }
+        ensures scalars { IsTrue (all_scalars self.now) }
     {
         self.kept.as_str()
     }
@@ -102,7 +102,7 @@ impl Text {
 /// How many characters a text has. One pass.
 pub fn char_count(text: &str) -> usize
     ensures count { result ≡ length (chars text.now) }
-    ensures scalars { all_scalars (chars text.now) ≡ true }
+    ensures scalars { IsTrue (all_scalars (chars text.now)) }
 {
     text.chars().count()
 }

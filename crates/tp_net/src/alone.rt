@@ -4,10 +4,10 @@ ghost use Rattle.std.specs.Prelude.{◌≡◌, ◌⊎◌, Err};
 ghost use Rattle.tp_session.specs.declared.error.NetError.TheVariants.{Io};
 ghost use Rattle.tp_session.specs.declared.session.Role.TheVariants.{Client};
 ghost use Rattle.tp_net.specs.RunSession.{TakesFrames};
-ghost use Rattle.tp_net.specs.Sessions.{MeetsAlone};
+ghost use Rattle.tp_net.specs.Sessions.{AttemptsSessionAlone};
 
 use crate::connecting::reach;
-use crate::patience::bound;
+use crate::patience::limit_waits;
 use crate::run::run_session;
 use std::alloc::Global;
 use std::io::{Read, Write};
@@ -28,7 +28,7 @@ pub fn hold_alone<I: Read, O: Write, J: Journal>(
     role: Role,
     peer: &mut Peer<J>,
 ) -> Result<u64, NetError>
-    ensures meets { MeetsAlone role peer.old result peer.new }
+    ensures meets { AttemptsSessionAlone role peer.old result peer.new }
     ensures frames { (result ≡ Err Io)
         ⊎ TakesFrames (O.contents writer.old) (O.contents writer.new) }
 {
@@ -37,7 +37,7 @@ pub fn hold_alone<I: Read, O: Write, J: Journal>(
     run_session(alloc, reader, writer, role, id, &mut host)
 }
 
-/// The same as the client or the server over the stream, which is closed at the end, and with the patience as
+/// Holds one session as [`hold_alone`] does, over the stream, which is closed at the end, and with the patience as
 /// [`connect`](crate::connect) says. `Io` where that can't be set.
 pub fn hold_alone_on<S: Read + Write + OpenStream + Drop, J: Journal>(
     alloc: Global,
@@ -46,10 +46,10 @@ pub fn hold_alone_on<S: Read + Write + OpenStream + Drop, J: Journal>(
     role: Role,
     peer: &mut Peer<J>,
 ) -> Result<u64, NetError>
-    ensures { MeetsAlone role peer.old result peer.new }
+    ensures { AttemptsSessionAlone role peer.old result peer.new }
 {
     let mut reader = stream;
-    match (bound(&reader, patience), reader.try_clone()) {
+    match (limit_waits(&reader, patience), reader.try_clone()) {
         (Ok(()), Ok(writer)) => {
             let mut writer = writer;
             hold_alone(alloc, &mut reader, &mut writer, role, peer)
@@ -69,7 +69,7 @@ pub fn connect_alone<R: Net, A: ToSocketAddrs, J: Journal>(
     patience: Option<Duration>,
     peer: &mut Peer<J>,
 ) -> Result<u64, NetError>
-    ensures { MeetsAlone Client peer.old result peer.new }
+    ensures { AttemptsSessionAlone Client peer.old result peer.new }
 {
     match reach(rt, addr, patience) {
         Ok(stream) => hold_alone_on(alloc, stream, patience, Role::Client, peer),

@@ -2,7 +2,7 @@
 
 ghost use Rattle.std.specs.Prelude.{◌≡◌};
 ghost use Rattle.tp_session.specs.declared.session.Role.TheVariants.{Client};
-ghost use Rattle.tp_net.specs.Sessions.{Meets};
+ghost use Rattle.tp_net.specs.Sessions.{AttemptsSession};
 
 use crate::holding::hold_on;
 use std::alloc::Global;
@@ -99,7 +99,7 @@ pub fn connect<R: Net + Wait, A: ToSocketAddrs, J: Journal>(
 ) -> Result<u64, NetError>
     requires { seat.old.served ≡ served.now.served }
     ensures served { seat.new.served ≡ seat.old.served }
-    ensures meets { Meets Client served.now.opened.id seat.old.state result seat.new.state }
+    ensures meets { AttemptsSession Client served.now.opened.id seat.old.state result seat.new.state }
 {
     match reach(rt, addr, patience) {
         Ok(stream) => hold_on(rt, alloc, stream, patience, Role::Client, served, seat).0,

@@ -2,10 +2,10 @@
 
 ghost use Rattle.std.specs.Prelude.{◌≡◌, ◌⊎◌, Err};
 ghost use Rattle.tp_session.specs.declared.error.NetError.TheVariants.{Io};
-ghost use Rattle.tp_net.specs.Sessions.{Meets};
+ghost use Rattle.tp_net.specs.Sessions.{AttemptsSession};
 ghost use Rattle.tp_net.specs.RunSession.{TakesFrames};
 
-use crate::patience::bound;
+use crate::patience::limit_waits;
 use crate::run::run_session;
 use crate::seated::SeatedHost;
 use crate::tally::Tally;
@@ -33,14 +33,14 @@ pub fn hold_over<R: Wait, I: Read, O: Write, J: Journal>(
 ) -> Result<u64, NetError>
     requires { seat.old.served ≡ served.now.served }
     ensures served { seat.new.served ≡ seat.old.served }
-    ensures meets { Meets role served.now.opened.id seat.old.state result seat.new.state }
+    ensures meets { AttemptsSession role served.now.opened.id seat.old.state result seat.new.state }
     ensures frames { (result ≡ Err Io)
         ⊎ TakesFrames (O.contents writer.old) (O.contents writer.new) }
 {
     hold_counted(rt, alloc, reader, writer, role, served, seat).0
 }
 
-// The same, and how many changes it moved.
+// Holds one session as [`hold_over`] does, and answers also how many changes it moved.
 fn hold_counted<R: Wait, I: Read, O: Write, J: Journal>(
     rt: &R,
     alloc: Global,
@@ -52,7 +52,7 @@ fn hold_counted<R: Wait, I: Read, O: Write, J: Journal>(
 ) -> (Result<u64, NetError>, Tally)
     requires { seat.old.served ≡ served.now.served }
     ensures served { seat.new.served ≡ seat.old.served }
-    ensures meets { Meets role served.now.opened.id seat.old.state result.0 seat.new.state }
+    ensures meets { AttemptsSession role served.now.opened.id seat.old.state result.0 seat.new.state }
     ensures frames { (result.0 ≡ Err Io)
         ⊎ TakesFrames (O.contents writer.old) (O.contents writer.new) }
 {
@@ -62,8 +62,8 @@ fn hold_counted<R: Wait, I: Read, O: Write, J: Journal>(
     (result, host.tally())
 }
 
-/// The same over the stream, which is closed at the end. A read or a write that waits longer than the patience ends the session
-/// as `Io`.
+/// Holds one session as [`hold_counted`] does, over the stream, which is closed at the end. A read or a write that
+/// waits longer than the patience ends the session as `Io`.
 pub(crate) fn hold_on<R: Wait, S: Read + Write + OpenStream + Drop, J: Journal>(
     rt: &R,
     alloc: Global,
@@ -75,10 +75,10 @@ pub(crate) fn hold_on<R: Wait, S: Read + Write + OpenStream + Drop, J: Journal>(
 ) -> (Result<u64, NetError>, Tally)
     requires { seat.old.served ≡ served.now.served }
     ensures served { seat.new.served ≡ seat.old.served }
-    ensures meets { Meets role served.now.opened.id seat.old.state result.0 seat.new.state }
+    ensures meets { AttemptsSession role served.now.opened.id seat.old.state result.0 seat.new.state }
 {
     let mut reader = stream;
-    match (bound(&reader, patience), reader.try_clone()) {
+    match (limit_waits(&reader, patience), reader.try_clone()) {
         (Ok(()), Ok(writer)) => {
             let mut writer = writer;
             hold_counted(rt, alloc, &mut reader, &mut writer, role, served, seat)

@@ -9,7 +9,8 @@ use std::net::OpenStream;
 use std::time::{Clock, Duration, Instant};
 use tp_session::NetError;
 
-/// So many milliseconds a connection has at least for its first bytes once a worker takes it: those that have come are read.
+/// A connection has at least this many milliseconds for its first bytes once a worker takes it: those that have come
+/// are read.
 const LEAST: u64 = 1;
 
 // A bound was set, or the stream knows none. `Io` where it can't be set.
@@ -27,7 +28,10 @@ fn set(outcome: io::Result<()>) -> Result<(), NetError>
 
 /// Lets no read and no write of the stream wait longer than the patience, where there is one: one that would fails. A
 /// stream that knows no such bound waits without one. `Io` where it can't be set, as of no time at all.
-pub(crate) fn bound<S: OpenStream>(stream: &S, patience: Option<Duration>) -> Result<(), NetError>
+pub(crate) fn limit_waits<S: OpenStream>(
+    stream: &S,
+    patience: Option<Duration>,
+) -> Result<(), NetError>
     ensures { IfErr result (λ e. e ≡ Io) }
 {
     if patience.is_none() {
@@ -38,7 +42,7 @@ pub(crate) fn bound<S: OpenStream>(stream: &S, patience: Option<Duration>) -> Re
 }
 
 // What is left of the patience with a connection that was accepted then.
-fn left<R: Clock>(rt: &R, accepted: Option<Instant>, patience: Duration) -> Duration {
+fn time_left<R: Clock>(rt: &R, accepted: Option<Instant>, patience: Duration) -> Duration {
     let passed = match accepted {
         Some(accepted) => accepted.elapsed(rt).unwrap_or(Duration::ZERO),
         None => Duration::ZERO,
@@ -61,7 +65,7 @@ pub(crate) fn await_first<R: Clock, S: OpenStream>(
     let Some(patience) = patience else {
         return Ok(());
     };
-    set(stream.set_read_timeout(Some(left(rt, accepted, patience))))?;
+    set(stream.set_read_timeout(Some(time_left(rt, accepted, patience))))?;
     match stream.peek(&mut [0]) {
         Ok(_) => Ok(()),
         Err(error) => match error.kind() {

@@ -3,13 +3,13 @@
 ghost use Rattle.std.specs.Prelude.{◌≡◌, ◌⊎◌, ℕ, List, ◌++◌, false, Err, IfOk, IfErr, MatchResult};
 ghost use Rattle.std.specs.List.{flat_map};
 ghost use Rattle.std.specs.Io.KnownBytes.{Appends, Consumes, Keeps};
-ghost use Rattle.tp_frame.specs.Frame.{spelling};
+ghost use Rattle.tp_frame.specs.Frame.{frame_spelling};
 ghost use Rattle.tp_session.specs.Conversation.{Goes};
 ghost use Rattle.tp_session.specs.declared.error.NetError.TheVariants.{Io};
 ghost use Rattle.tp_session.specs.Laws.{is_over};
-ghost use Rattle.tp_session.specs.SessionData.{begun};
+ghost use Rattle.tp_session.specs.SessionState.{new_session};
 ghost use Rattle.tp_session.specs.Transcript.{Traffic};
-ghost use Rattle.tp_net.specs.RunSession.{EndsWell, StopsAtTurn, StopsFor, IsHeld};
+ghost use Rattle.tp_net.specs.RunSession.{EndsWell, StopsAtTurn, StopsFor, IsWholeSession};
 
 use crate::reading::read_more;
 use crate::writing::{put, send_refusal};
@@ -62,10 +62,10 @@ fn converse<R: Read, W: Write, H: Host>(
     ensures session { (w : Traffic)
         × Consumes (R.remaining reader.old) (R.remaining reader.new) w.read
         × ((result ≡ Err Io)
-        ⊎ Appends (W.contents writer.old) (W.contents writer.new) (flat_map spelling w.sent))
+        ⊎ Appends (W.contents writer.old) (W.contents writer.new) (flat_map frame_spelling w.sent))
         × MatchResult result
-        (λ n. EndsWell H.steps (begun role id, H.seen host.old) w n (H.seen host.new))
-        (λ e. StopsFor H.steps (begun role id, H.seen host.old) w e (H.seen host.new)) }
+        (λ n. EndsWell H.steps (new_session role id, H.seen host.old) w n (H.seen host.new))
+        (λ e. StopsFor H.steps (new_session role id, H.seen host.old) w e (H.seen host.new)) }
     ensures host { H.goes_on host.old host.new }
 {
     let mut conversation = Conversation::new(alloc, role, id);
@@ -74,7 +74,7 @@ fn converse<R: Read, W: Write, H: Host>(
     let mut next = Next::Waits;
     for _ in 0..u64::MAX {
         if let Next::Ended = next {
-            return Ok(conversation.applied());
+            return Ok(conversation.applied_count());
         }
         next = take_turn(reader, writer, &mut conversation, next, host)?;
     }
@@ -85,7 +85,7 @@ fn converse<R: Read, W: Write, H: Host>(
 /// many changes were applied here.
 ///
 /// The host forgets its link before the first frame and at the end. A client sends its hello; then each frame that the
-/// reader gives is answered as [`Session::on_part`] says, until both sides have said done. The writer is flushed behind
+/// reader gives is answered as [`Session::on_part`] says, until both sides have said done. The writer is flushed after
 /// each frame.
 ///
 /// Where the host refuses to forget the link at the begin the answer is `Peer`, and nothing is read or sent; such a
@@ -97,7 +97,7 @@ fn converse<R: Read, W: Write, H: Host>(
 ///
 /// It waits for bytes as long as the reader does, so the other side can hold it for ever. At most 8,192 bytes are read at
 /// once and fed to a [`Conversation`]: of a message those of one change at most are held, and what was decoded. Bytes
-/// behind the last frame may have been read. All else is the cost of the host's calls.
+/// after the last frame may have been read. All else is the cost of the host's calls.
 pub fn run_session<R: Read, W: Write, H: Host>(
     alloc: Global,
     reader: &mut R,
@@ -111,8 +111,8 @@ pub fn run_session<R: Read, W: Write, H: Host>(
     ensures session { (w : Traffic)
         × Consumes (R.remaining reader.old) (R.remaining reader.new) w.read
         × ((result ≡ Err Io)
-        ⊎ Appends (W.contents writer.old) (W.contents writer.new) (flat_map spelling w.sent))
-        × IsHeld H.steps (begun role id) (H.seen host.old) w result (H.seen host.new) }
+        ⊎ Appends (W.contents writer.old) (W.contents writer.new) (flat_map frame_spelling w.sent))
+        × IsWholeSession H.steps (new_session role id) (H.seen host.old) w result (H.seen host.new) }
     ensures host { H.goes_on host.old host.new }
 {
     host.forget()?;

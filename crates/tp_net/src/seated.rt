@@ -49,9 +49,9 @@ impl<'a, 's, J: Journal, R: Wait> SeatedHost<'a, 's, J, R> {
 
 impl<'a, 's, J: Journal, R: Wait> Host for SeatedHost<'a, 's, J, R> {
     ghost use Rattle.std.proofs.Common.{refl, ◌∙◌};
-    ghost use Rattle.tp_served.specs.Seats.{SeatState};
+    ghost use Rattle.tp_served.specs.Seats.{SeatKnowledge};
 
-    ghost Seen = { SeatState };
+    ghost Seen = { SeatKnowledge };
 
     ghost seen = { λ h. h.seat.now.state };
 

@@ -4,7 +4,7 @@ ghost use Rattle.std.specs.Prelude.{◌≡◌, ◌⊎◌, IfOk, IfErr};
 ghost use Rattle.tp_served.specs.Calls.{AreOf};
 ghost use Rattle.tp_session.specs.declared.error.NetError.TheVariants.{Io, OutOfMemory};
 ghost use Rattle.tp_session.specs.declared.session.Role.TheVariants.{Server};
-ghost use Rattle.tp_net.specs.Sessions.{AllSit, Meets, Sits};
+ghost use Rattle.tp_net.specs.Sessions.{AllSit, AttemptsSession, Sits};
 
 use crate::gate::{Gate, Report};
 use crate::holding::hold_on;
@@ -79,7 +79,7 @@ fn hold_awaited<R: Wait + Clock, S: Read + Write + OpenStream + Drop, J: Journal
 ) -> (Result<u64, NetError>, Tally)
     requires { seat.old.served ≡ served.now.served }
     ensures served { seat.new.served ≡ seat.old.served }
-    ensures meets { Meets Server served.now.opened.id seat.old.state result.0 seat.new.state }
+    ensures meets { AttemptsSession Server served.now.opened.id seat.old.state result.0 seat.new.state }
 {
     match await_first(rt, &stream, at, patience) {
         Ok(()) => hold_on(rt, alloc, stream, patience, Role::Server, served, seat),

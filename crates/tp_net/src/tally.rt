@@ -25,7 +25,7 @@ fn after_hashes(bytes: &[u8]) -> &[u8] {
     rest.get(32 * count as usize..).unwrap_or(&[])
 }
 
-// How many changes a message of version 2 carries: their count stands after the version and three lists of hashes.
+// How many changes a message of version 2 carries: their count is after the version and three lists of hashes.
 fn changes_in(message: &[u8]) -> u32 {
     let lists = message.get(1..).unwrap_or(&[]);
     count_of(after_hashes(after_hashes(after_hashes(lists)))).0

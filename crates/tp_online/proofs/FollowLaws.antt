@@ -10,7 +10,7 @@ use Rattle.tp_textpeer.specs.Output.{AppendsPart}
 use Rattle.tp_disk.specs.DiskView.{DiskView}
 use Rattle.tp_disk.specs.Opening.{MayCutFile}
 use Rattle.tp_online.specs.Network.{met_line}
-use Rattle.tp_report.specs.Telling.{Grows, GrowsPart, Reports}
+use Rattle.tp_report.specs.Telling.{GrowsBy, GrowsPart, Reports}
 use Rattle.tp_online.specs.Sessions.{ReportsEach, IsFollowed, MayMeet}
 
 one_each : (P : ℕ → Type 0) (n : ℕ) → P n → All P (n ∷ [])
@@ -21,11 +21,11 @@ module _ (saw : DiskView → Type 0) (file : List ℕ) where
   -- the journal was opened once
   pub reports_once : (a b : Option (List ℕ)) (kept : Option ℕ) → MayCutFile saw file kept → Reports file kept None a b
       → (cuts : List (Option ℕ)) × ReportsEach saw file cuts a b
-  reports_once a b kept may told = (kept ∷ [], (b, may, told, refl))
+  reports_once a b kept may reported = (kept ∷ [], (b, may, reported, refl))
 
   reports_join : (cuts more : List (Option ℕ)) (a b c : Option (List ℕ)) → ReportsEach saw file cuts a b → ReportsEach saw file more b c → ReportsEach saw file (cuts ++ more) a c
   reports_join [] more a b c same then = subst (λ (x : Option (List ℕ)). ReportsEach saw file more x c) (sym same) then
-  reports_join (k ∷ cuts) more a b c (mid, may, told, rest) then = (mid, may, told, reports_join cuts more mid b c rest then)
+  reports_join (k ∷ cuts) more a b c (mid, may, reported, rest) then = (mid, may, reported, reports_join cuts more mid b c rest then)
 
   -- and it was opened again
   pub reports_more : (a b c : Option (List ℕ)) → (cuts : List (Option ℕ)) × ReportsEach saw file cuts a b → (cuts : List (Option ℕ)) × ReportsEach saw file cuts b c
@@ -43,14 +43,14 @@ module _ (saw : DiskView → Type 0) (file : List ℕ) where
     none_followed = record { applied = []; count = refl; met = λ k d below. absurd (omega arith); spelled = refl }
 
     -- no session was held
-    pub followed_none : (a : Option (List ℕ)) → Grows (IsFollowed saw file key 0) a a
+    pub followed_none : (a : Option (List ℕ)) → GrowsBy (IsFollowed saw file key 0) a a
     followed_none a = ([], none_followed, Appends-nil a)
 
     one_followed : (n : ℕ) → MayMeet saw file key (Some n) → IsFollowed saw file key 1 (met_line n)
     one_followed n met = record { applied = n ∷ []; count = refl; met = one_each Met n met; spelled = sym (append-nil (met_line n)) }
 
     -- one was, and its line was written
-    pub followed_once : (n : ℕ) (a b : Option (List ℕ)) → MayMeet saw file key (Some n) → Appends a b (met_line n) → Grows (IsFollowed saw file key 1) a b
+    pub followed_once : (n : ℕ) (a b : Option (List ℕ)) → MayMeet saw file key (Some n) → Appends a b (met_line n) → GrowsBy (IsFollowed saw file key 1) a b
     followed_once n a b met wrote = (met_line n, one_followed n met, wrote)
 
     -- or a part of it
@@ -70,12 +70,12 @@ module _ (saw : DiskView → Type 0) (file : List ℕ) where
     }
 
     -- more were held after these
-    pub followed_more : (n m : ℕ) (a b c : Option (List ℕ)) → Grows (IsFollowed saw file key n) a b → Grows (IsFollowed saw file key m) b c
-        → Grows (IsFollowed saw file key (n + m)) a c
+    pub followed_more : (n m : ℕ) (a b c : Option (List ℕ)) → GrowsBy (IsFollowed saw file key n) a b → GrowsBy (IsFollowed saw file key m) b c
+        → GrowsBy (IsFollowed saw file key (n + m)) a c
     followed_more n m a b c (xs, f, first) (ys, g, then) = (xs ++ ys, followed_join n m xs ys f g, Appends-trans a b c xs ys first then)
 
     -- it stopped after these
-    pub stops_after : {A E : Type 0} (done : Result A E) (n : ℕ) (a b c : Option (List ℕ)) → Grows (IsFollowed saw file key n) a b → Stops b c → OnErr done (Stops a c)
+    pub stops_after : {A E : Type 0} (done : Result A E) (n : ℕ) (a b c : Option (List ℕ)) → GrowsBy (IsFollowed saw file key n) a b → Stops b c → OnErr done (Stops a c)
     stops_after (Ok x) n a b c first then = tt
     stops_after (Err e) n a b c (xs, f, first) (ys, (m, g), p) = (
       xs ++ ys,

@@ -7,12 +7,12 @@ use Rattle.std.specs.declared.net.socket_addr.SocketAddr.{SocketAddr}
 use Rattle.tp_command_line.specs.declared.job.Hosting.{Hosting}
 use Rattle.tp_textpeer.specs.Output.{AppendsPart}
 use Rattle.tp_online.specs.Network.{IsPageShown, beside_line, page_line}
-use Rattle.tp_report.specs.Telling.{Grows, GrowsPart}
+use Rattle.tp_report.specs.Telling.{GrowsBy, GrowsPart}
 
 module _ (hosting : Hosting) (page : SocketAddr) (port : Option ℕ) (old new : Option (List ℕ)) where
   -- its lines were written, whatever came then
   pub shown_page : {A E : Type 0} (done : Result A E) → socket_ip page ≡ socket_ip hosting.page → is_some port ≡ is_some hosting.serve
-      → Appends old new (page_line page ++ beside_line port) → OnOk done (Grows (IsPageShown hosting) old new)
+      → Appends old new (page_line page ++ beside_line port) → OnOk done (GrowsBy (IsPageShown hosting) old new)
   shown_page (Ok x) ip beside wrote = (page_line page ++ beside_line port, (page, port, ip, beside, refl), wrote)
   shown_page (Err e) ip beside wrote = tt
 

@@ -5,15 +5,15 @@ use Rattle.std.specs.Io.KnownBytes.{Appends, Keeps}
 use Rattle.std.proofs.KnownBytes.{Appends-trans}
 use Rattle.tp_textpeer.specs.Output.{AppendsPart}
 use Rattle.tp_report.specs.declared.error.JobError.{JobError}
-use Rattle.tp_online.specs.Network.{IsServed, IsSynced, listening_line, served_line}
-use Rattle.tp_report.specs.Telling.{applied_line, Grows, GrowsPart, Leaves}
+use Rattle.tp_online.specs.Network.{IsServeOutput, IsSynced, listening_line, served_line}
+use Rattle.tp_report.specs.Telling.{applied_line, GrowsBy, GrowsPart, RefusesPrinting}
 use Rattle.tp_report.specs.JobError.{IsOfOutput}
 
 -- the line of how many changes entered, refused, or written in part since the output failed
 pub leaves : {A S F : Type 0} (done : Result A JobError) (printed : Result S F) (bytes : S → List ℕ) (applied : ℕ) (old new : Option (List ℕ))
     → IfOk printed (λ l. bytes l ≡ applied_line applied)
     → IfErr done (λ e. Keeps old new ⊎ (IsOfOutput e × IsOkAnd printed (λ l. AppendsPart old new (bytes l))))
-    → IfErr done (λ e. Leaves IsSynced e old new)
+    → IfErr done (λ e. RefusesPrinting IsSynced old e new)
 leaves (Ok x) printed bytes applied old new spelled wrote = tt
 leaves (Err e) (Ok l) bytes applied old new spelled wrote =
     ⊎_elim (λ kept. inl kept) (λ part. inr (part.0, (bytes l, (applied, spelled), part.1))) wrote
@@ -21,13 +21,13 @@ leaves (Err e) (Err f) bytes applied old new spelled wrote = ⊎_elim (λ kept. 
 
 -- both lines were written
 pub served : {A E : Type 0} (done : Result A E) (old mid new : Option (List ℕ)) (port sessions : ℕ) → Appends old mid (listening_line port)
-    → OnOk done (Appends mid new (served_line sessions)) → OnOk done (Grows (IsServed sessions) old new)
+    → OnOk done (Appends mid new (served_line sessions)) → OnOk done (GrowsBy (IsServeOutput sessions) old new)
 served (Ok x) old mid new port sessions wrote more =
     (listening_line port ++ served_line sessions, (port, refl), Appends-trans old mid new (listening_line port) (served_line sessions) wrote more)
 served (Err e) old mid new port sessions wrote more = tt
 
 -- a part of the first line
-pub stopped_first : (old new : Option (List ℕ)) (port sessions : ℕ) → AppendsPart old new (listening_line port) → GrowsPart (IsServed sessions) old new
+pub stopped_first : (old new : Option (List ℕ)) (port sessions : ℕ) → AppendsPart old new (listening_line port) → GrowsPart (IsServeOutput sessions) old new
 stopped_first old new port sessions p = (
   listening_line port ++ served_line sessions,
   (port, refl),
@@ -41,7 +41,7 @@ stopped_first old new port sessions p = (
 
 -- the first line, and a part of the second
 pub stopped_then : {A E : Type 0} (done : Result A E) (old mid new : Option (List ℕ)) (port sessions : ℕ) → Appends old mid (listening_line port)
-    → IfErr done (λ e. AppendsPart mid new (served_line sessions)) → IfErr done (λ e. GrowsPart (IsServed sessions) old new)
+    → IfErr done (λ e. AppendsPart mid new (served_line sessions)) → IfErr done (λ e. GrowsPart (IsServeOutput sessions) old new)
 stopped_then (Ok x) old mid new port sessions wrote part = tt
 stopped_then (Err e) old mid new port sessions wrote p = (
   listening_line port ++ served_line sessions,

@@ -6,10 +6,10 @@ use Rattle.std.specs.Net.Socket.{socket_ip}
 use Rattle.std.specs.Net.Text.{socket_text}
 use Rattle.std.specs.declared.net.socket_addr.SocketAddr.{SocketAddr}
 use Rattle.tp_frame.specs.declared.frame.Frame.{Frame}
-use Rattle.tp_frame.specs.Frame.{spelling}
+use Rattle.tp_frame.specs.Frame.{frame_spelling}
 use Rattle.tp_command_line.specs.declared.job.Hosting.{Hosting}
-use Rattle.tp_commands.specs.Reading.{line}
 use Rattle.tp_report.specs.Telling.{applied_line}
+use Rattle.tp_list.specs.Bytes.{line}
 
 -- the line of the port on which a server listens
 abbrev pub listening_line : ℕ → List ℕ
@@ -38,9 +38,9 @@ abbrev pub IsPageShown : Hosting → List ℕ → Type 0
 IsPageShown hosting printed = (page : SocketAddr) × (port : Option ℕ) × (socket_ip page ≡ socket_ip hosting.page)
     × (is_some port ≡ is_some hosting.serve) × (printed ≡ page_line page ++ beside_line port)
 
--- The bytes are what a server prints that held so many sessions: first the port on which it listens.
-abbrev pub IsServed : ℕ → List ℕ → Type 0
-IsServed sessions printed = (port : ℕ) × (printed ≡ listening_line port ++ served_line sessions)
+-- The bytes are what a server prints that held this many sessions: first the port on which it listens.
+abbrev pub IsServeOutput : ℕ → List ℕ → Type 0
+IsServeOutput sessions printed = (port : ℕ) × (printed ≡ listening_line port ++ served_line sessions)
 
 -- the bytes are what a client prints: how many changes entered
 abbrev pub IsSynced : List ℕ → Type 0
@@ -48,4 +48,4 @@ IsSynced printed = (applied : ℕ) × (printed ≡ applied_line applied)
 
 -- the bytes are frames, each whole
 abbrev pub AreFrames : List ℕ → Type 0
-AreFrames printed = (sent : List Frame) × (printed ≡ flat_map spelling sent)
+AreFrames printed = (sent : List Frame) × (printed ≡ flat_map frame_spelling sent)

@@ -1,59 +1,59 @@
 -- What sessions came to, on the seats of a served peer and on a peer alone.
 use Rattle.std.specs.Prelude.{◌≡◌, ℕ, List, [], ◌∷◌, length, Ok, Option, Some, None, false}
 use Rattle.std.specs.List.{All, flat_map}
-use Rattle.tp_peer.specs.PeerData.{PeerData}
+use Rattle.tp_peer.specs.PeerState.{PeerState}
 use Rattle.tp_session.specs.declared.session.Role.{Role}
 use Rattle.tp_session.specs.declared.session.Role.TheVariants.{Client}
 use Rattle.tp_disk.specs.DiskView.{DiskView, OfLocked}
 use Rattle.tp_disk.specs.Opening.{MayCutFile, OpensUnder}
 use Rattle.tp_report.specs.Telling.{Reports}
 use Rattle.tp_online.specs.Network.{met_line}
-use Rattle.tp_net.specs.Sessions.{AllSit, MeetsAlone}
+use Rattle.tp_net.specs.Sessions.{AllSit, AttemptsSessionAlone}
 use Rattle.tp_served.specs.Calls.{Closes}
-use Rattle.tp_served.specs.Seats.{SeatData, ServedData, fresh_from, seats_of, states_of}
+use Rattle.tp_served.specs.Seats.{SeatState, ServedState, fresh_from, seats_of, states_of}
 
 -- the seats of a served peer, as its opening gives them
-abbrev pub opened_seats : ServedData → List SeatData
+abbrev pub opened_seats : ServedState → List SeatState
 opened_seats d = seats_of d.served (fresh_from d.opened 0 d.count)
 
 -- The peer p is what the closing of the served peer gives back for the seats, and its journal didn't stop it.
-pub record EndsRunning (served : ServedData) (seats : List SeatData) (p : PeerData) : Type 0 where
+pub record EndsRunning (served : ServedState) (seats : List SeatState) (p : PeerState) : Type 0 where
   pub closes : Closes served.opened served.count (states_of seats) p
   pub runs : p.stopped ≡ false
 
 -- The peer p was opened, and served on as many seats as said; with these, as sessions about its document led them from
 -- the opening on, each as the server, the closing gives back the peer p'. Its journal didn't stop it.
-pub record WasServed (p : PeerData) (count : ℕ) (p' : PeerData) : Type 0 where
-  pub served : ServedData
+pub record WasServed (p : PeerState) (count : ℕ) (p' : PeerState) : Type 0 where
+  pub served : ServedState
   pub opened : served.opened ≡ p
   pub number : served.count ≡ count
-  pub back : List SeatData
+  pub back : List SeatState
   pub sat : AllSit served.opened.id (opened_seats served) back
   pub ends : EndsRunning served back p'
 
 -- The peer that was opened on the bytes of a journal, under the actor that is drawn under the key, was served.
-pub record ServesJournal (key : Option (List ℕ)) (bytes : List ℕ) (count : ℕ) (p' : PeerData) : Type 0 where
-  pub peer : PeerData
+pub record ServesJournal (key : Option (List ℕ)) (bytes : List ℕ) (count : ℕ) (p' : PeerState) : Type 0 where
+  pub peer : PeerState
   pub opens : OpensUnder key bytes peer
   pub served : WasServed peer count p'
 
 -- One session about the opened document led the peer that was opened on the bytes of the file, under the actor that is drawn
 -- under the key, to p', as the side; n changes entered by it, up to 2^64 - 1.
-pub record HasMet (saw : DiskView → Type 0) (file : List ℕ) (key : Option (List ℕ)) (role : Role) (n : ℕ) (p' : PeerData) : Type 0 where
-  pub peer : PeerData
+pub record HasMet (saw : DiskView → Type 0) (file : List ℕ) (key : Option (List ℕ)) (role : Role) (n : ℕ) (p' : PeerState) : Type 0 where
+  pub peer : PeerState
   pub opens : OfLocked saw file (λ bytes. OpensUnder key bytes peer)
-  pub meets : MeetsAlone role peer (Ok n) p'
+  pub meets : AttemptsSessionAlone role peer (Ok n) p'
 
--- One session was held as the client, and so many changes entered; or it may be held later.
+-- One session was held as the client, and n changes entered by it; or it may be held later.
 abbrev pub MayMeet : (DiskView → Type 0) → List ℕ → Option (List ℕ) → Option ℕ → Type 0
 MayMeet saw file key None = Unit {0}
-MayMeet saw file key (Some n) = (p' : PeerData) × HasMet saw file key Client n p'
+MayMeet saw file key (Some n) = (p' : PeerState) × HasMet saw file key Client n p'
 
--- So many sessions were held as the client, one after another, and this is printed of them.
+-- That many sessions were held as the client, one after another, and this is printed of them.
 pub record IsFollowed (saw : DiskView → Type 0) (file : List ℕ) (key : Option (List ℕ)) (held : ℕ) (printed : List ℕ) : Type 0 where
   pub applied : List ℕ
   pub count : length applied ≡ held
-  pub met : All (λ n. (p' : PeerData) × HasMet saw file key Client n p') applied
+  pub met : All (λ n. (p' : PeerState) × HasMet saw file key Client n p') applied
   pub spelled : printed ≡ flat_map met_line applied
 
 -- What the error stream holds of what was cut off, of each of some times that the journal in the file was opened, one after

@@ -1,31 +1,32 @@
 -- What a page came to, on the seats of a served peer.
-use Rattle.std.specs.Prelude.{◌≡◌, ◌⊎◌, ℕ, List, [], ◌∷◌, is_some, true, Option, Result}
+use Rattle.std.specs.Prelude.{◌≡◌, ◌⊎◌, ℕ, List, [], ◌∷◌, is_some, Option, Result, IsTrue}
 use Rattle.tp_command_line.specs.declared.job.Hosting.{Hosting}
 use Rattle.tp_disk.specs.Opening.{OpensUnder}
 use Rattle.tp_list.specs.Traces.{Trace}
-use Rattle.tp_net.specs.Sessions.{Holds, Sits}
+use Rattle.tp_net.specs.Sessions.{HoldsSession, Sits}
 use Rattle.tp_online.specs.Sessions.{EndsRunning, opened_seats}
 use Rattle.tp_opid.specs.declared.doc_id.DocId.{DocId}
-use Rattle.tp_peer.specs.PeerData.{PeerData}
-use Rattle.tp_served.specs.Seats.{SeatData, ServedData}
+use Rattle.tp_peer.specs.PeerState.{PeerState}
+use Rattle.tp_served.specs.Seats.{SeatState, ServedState}
 use Rattle.tp_session.specs.declared.error.NetError.{NetError}
 use Rattle.tp_session.specs.declared.session.Role.TheVariants.{Client}
 use Rattle.tp_web.specs.Visiting.{Attends}
 
 -- The seat stayed at its served peer, and some sessions led it from the one to the other, each as the client.
-pub record Follows (id : DocId) (s s' : SeatData) : Type 0 where
+pub record FollowsServer (id : DocId) (s s' : SeatState) : Type 0 where
   pub served : s'.served ≡ s.served
   pub answers : List (Result ℕ NetError)
-  pub sessions : Trace (Holds Client id) s.state answers s'.state
+  pub sessions : Trace (HoldsSession Client id) s.state answers s'.state
 
--- A seat of the page's peer went on by turns of windows, in each of which the peer stayed or made one edit of a window; or by
--- sessions as the server, where these are served beside the page; or by sessions as the client, where a server is followed.
-abbrev pub TakesPart : Hosting → DocId → SeatData → SeatData → Type 0
+-- A seat of the page's peer went on by turns of windows, where the peer stayed or made one edit of a window in each
+-- turn; or by sessions as the server, where these are served beside the page; or by sessions as the client, where a
+-- server is followed.
+abbrev pub TakesPart : Hosting → DocId → SeatState → SeatState → Type 0
 TakesPart hosting id s s' = Attends s s'
-    ⊎ (((is_some hosting.serve ≡ true) × Sits id s s') ⊎ ((is_some hosting.follow ≡ true) × Follows id s s'))
+    ⊎ ((IsTrue (is_some hosting.serve) × Sits id s s') ⊎ (IsTrue (is_some hosting.follow) × FollowsServer id s s'))
 
 -- So it is of each seat, in their order, and as many are there.
-abbrev pub AllTakePart : Hosting → DocId → List SeatData → List SeatData → Type 0
+abbrev pub AllTakePart : Hosting → DocId → List SeatState → List SeatState → Type 0
 AllTakePart hosting id [] [] = Unit {0}
 AllTakePart hosting id [] (s' ∷ seats') = ⊥
 AllTakePart hosting id (s ∷ seats) [] = ⊥
@@ -33,15 +34,15 @@ AllTakePart hosting id (s ∷ seats) (s' ∷ seats') = TakesPart hosting id s s'
 
 -- The peer p was opened, and shown on a page; with its seats, as they went on from the opening, the closing gives back the peer
 -- p'. Its journal didn't stop it.
-pub record WasShown (hosting : Hosting) (p p' : PeerData) : Type 0 where
-  pub served : ServedData
+pub record WasShown (hosting : Hosting) (p p' : PeerState) : Type 0 where
+  pub served : ServedState
   pub opened : served.opened ≡ p
-  pub back : List SeatData
+  pub back : List SeatState
   pub parts : AllTakePart hosting served.opened.id (opened_seats served) back
   pub ends : EndsRunning served back p'
 
 -- The peer that was opened on the bytes of a journal, under the actor that is drawn under the key, was shown on a page.
-pub record ShowsJournal (hosting : Hosting) (key : Option (List ℕ)) (bytes : List ℕ) (p' : PeerData) : Type 0 where
-  pub peer : PeerData
+pub record ShowsJournal (hosting : Hosting) (key : Option (List ℕ)) (bytes : List ℕ) (p' : PeerState) : Type 0 where
+  pub peer : PeerState
   pub opens : OpensUnder key bytes peer
   pub shown : WasShown hosting peer p'

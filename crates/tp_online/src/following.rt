@@ -5,7 +5,7 @@ ghost use Rattle.std.specs.Io.KnownBytes.{Appends};
 ghost use Rattle.tp_textpeer.specs.Output.{AppendsPart};
 ghost use Rattle.tp_disk.specs.Opening.{MayCutFile};
 ghost use Rattle.tp_online.specs.Network.{met_line};
-ghost use Rattle.tp_report.specs.Telling.{Grows, GrowsPart};
+ghost use Rattle.tp_report.specs.Telling.{GrowsBy, GrowsPart};
 ghost use Rattle.tp_online.specs.Sessions.{ReportsEach, IsFollowed, MayMeet};
 
 use crate::serving::{Met, applied_by};
@@ -81,7 +81,7 @@ fn meet<R: Disk + Net + AllocGlobal>(
     }
 }
 
-// The same, and says what was cut off the journal, unless it is refused.
+// Holds one session as [`meet`] does, and says what was cut off the journal, unless it is refused.
 fn meet_and_report<R: Disk + Net + AllocGlobal, E: Write>(
     rt: &R,
     file: &str,
@@ -108,7 +108,8 @@ fn meet_and_report<R: Disk + Net + AllocGlobal, E: Write>(
     }
 }
 
-// The same, and prints how many changes entered, where any did. How many sessions were held.
+// Holds one session as [`meet_and_report`] does, and prints how many changes entered, where any did. Answers how many
+// sessions were held.
 fn follow_once<R: Disk + Net + AllocGlobal, W: Write, E: Write>(
     rt: &R,
     file: &str,
@@ -125,7 +126,7 @@ fn follow_once<R: Disk + Net + AllocGlobal, W: Write, E: Write>(
     ensures early { (cuts : List (Option ℕ)) × ReportsEach (R.saw rt.now) file.now cuts
         (E.contents err.old) (E.contents err.new) }
     ensures few { IfOk result (λ held. held ≤ 1) }
-    ensures ok { IfOk result (λ held. Grows (IsFollowed (R.saw rt.now) file.now key held)
+    ensures ok { IfOk result (λ held. GrowsBy (IsFollowed (R.saw rt.now) file.now key held)
         (W.contents out.old) (W.contents out.new)) }
     ensures err { OnErr result
         (GrowsPart (λ printed. (n : ℕ) × IsFollowed (R.saw rt.now) file.now key n printed)
@@ -169,7 +170,7 @@ pub fn follow_file<R: Disk + Net + Clock + AllocGlobal, W: Write, E: Write>(
     ensures may_cut { OnErr result (MayCutFile (R.saw rt.now) file.now cut.new) }
     ensures early { (cuts : List (Option ℕ)) × ReportsEach (R.saw rt.now) file.now cuts
         (E.contents err.old) (E.contents err.new) }
-    ensures ok { OnOk result (Grows (IsFollowed (R.saw rt.now) file.now key sessions)
+    ensures ok { OnOk result (GrowsBy (IsFollowed (R.saw rt.now) file.now key sessions)
         (W.contents out.old) (W.contents out.new)) }
     ensures err { OnErr result
         (GrowsPart (λ printed. (n : ℕ) × IsFollowed (R.saw rt.now) file.now key n printed)

@@ -1,7 +1,7 @@
 //! The seats of a page's peer: those of its windows, of the sessions beside these, and of one that follows a server.
 
 ghost use Rattle.std.specs.Prelude.{◌≡◌, ◌++◌, IfOk, is_some, length};
-ghost use Rattle.tp_online.specs.Showing.{AllTakePart, Follows};
+ghost use Rattle.tp_online.specs.Showing.{AllTakePart, FollowsServer};
 ghost use Rattle.tp_served.specs.Calls.{AreOf};
 
 use crate::seating::hold;
@@ -22,13 +22,13 @@ use tp_served::{Seat, Served};
 use tp_session::{NetError, Role};
 use tp_web::{Site, serve_windows};
 
-// So many sessions are held at once beside a page, where they are served.
+// This many sessions are held at once beside a page, where they are served.
 const SESSIONS: usize = 15;
 
-// So many seconds the other side of a session may say nothing.
+// The other side of a session may say nothing for this many seconds.
 const PATIENCE: u64 = 30;
 
-// So many seconds pass between two sessions with a server that is followed.
+// This many seconds pass between two sessions with a server that is followed.
 const EVERY: u64 = 1;
 
 /// What a page's program listens with.
@@ -42,7 +42,7 @@ pub(crate) struct Stage<L: Drop> {
     pub sessions: Option<L>,
 }
 
-// Takes so many seats from the end, or all that are there. They keep their order.
+// Takes `count` seats from the end, or all that are there. They keep their order.
 fn take_last(alloc: Global, seats: &mut Vec<Seat>, count: usize) -> Result<Vec<Seat>, AllocError>
     ensures { IfOk result (λ taken. seats.old.items ≡ seats.new.items ++ taken.items) }
 {
@@ -181,7 +181,7 @@ fn meet_over<R: Wait, S: Read + Write + OpenStream + Drop, J: Journal>(
     seat: &mut Seat,
 ) -> Option<NetError>
     requires { seat.old.served ≡ served.now.served }
-    ensures { Follows served.now.opened.id seat.old seat.new }
+    ensures { FollowsServer served.now.opened.id seat.old seat.new }
 {
     let mut reader = stream;
     match (set_patience(&reader), reader.try_clone()) {
@@ -212,7 +212,7 @@ fn meet<R: Wait, T: Read + Write + OpenStream + Drop, V: Server<Stream = T>, J: 
     seat: &mut Seat,
 ) -> Option<NetError>
     requires { seat.old.served ≡ served.now.served }
-    ensures { Follows served.now.opened.id seat.old seat.new }
+    ensures { FollowsServer served.now.opened.id seat.old seat.new }
 {
     match server.reach() {
         Some(stream) => meet_over(rt, alloc, stream, served, seat),
@@ -229,7 +229,7 @@ fn is_for_ever(error: Option<NetError>) -> bool {
 }
 
 // Holds sessions with the server at the address, one after another, until the page is shown no more, or the server is of another
-// document or version. How one ended is told where that differs from how the one before it did.
+// document or version. How one ended is reported where that differs from how the one before it did.
 #[tactic(auto, using(crate::proofs::PartLaws::not_yet, crate::proofs::PartLaws::then))]
 fn follow<R: Wait + Clock, T: Read + Write + OpenStream + Drop, V: Server<Stream = T>, J: Journal>(
     rt: &R,
@@ -240,7 +240,7 @@ fn follow<R: Wait + Clock, T: Read + Write + OpenStream + Drop, V: Server<Stream
     seat: &mut Seat,
 )
     requires { seat.old.served ≡ served.now.served }
-    ensures { Follows served.now.opened.id seat.old seat.new }
+    ensures { FollowsServer served.now.opened.id seat.old seat.new }
 {
     let mut last = None;
     for _ in rt.forever() {

@@ -29,7 +29,7 @@ pub(crate) struct Listening<L: Drop, F: Write + OpenFile + Drop> {
 }
 
 /// The peer on the journal in the file, and from which offset on what was cut off it is kept.
-pub(crate) fn opened<R: Disk + AllocGlobal>(
+pub(crate) fn open_peer<R: Disk + AllocGlobal>(
     rt: &R,
     file: &str,
     actor: Actor,
@@ -52,7 +52,7 @@ pub(crate) fn opened<R: Disk + AllocGlobal>(
 }
 
 /// Listens at the address, of a name at the first of its addresses where that can be; also answers the port.
-pub(crate) fn bound<R: Net>(rt: &R, addr: Address) -> io::Result<(R::Listener, u16)> {
+pub(crate) fn bind<R: Net>(rt: &R, addr: Address) -> io::Result<(R::Listener, u16)> {
     let listener = match addr {
         Address::Socket(addr) => TcpListener::bind(rt, addr)?,
         Address::Host { name, port } => TcpListener::bind(rt, (name, port))?,
@@ -76,8 +76,8 @@ pub(crate) fn listen<R: Disk + Net + AllocGlobal>(
     ensures opens { IfOk result (λ l. OfLocked (R.saw rt.now) file.now
         (λ bytes. OpensJournal bytes actor l.peer)) }
 {
-    let peer = opened(rt, file, actor, cut)?;
-    match bound(rt, addr) {
+    let peer = open_peer(rt, file, actor, cut)?;
+    match bind(rt, addr) {
         Ok((listener, port)) => Ok(Listening {
             listener,
             port,

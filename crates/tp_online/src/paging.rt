@@ -7,12 +7,12 @@ ghost use Rattle.tp_disk.specs.DiskView.{OfLocked};
 ghost use Rattle.tp_disk.specs.Opening.{MayCutFile};
 ghost use Rattle.tp_online.specs.Network.{IsPageShown, beside_line, page_line as line_of_page};
 ghost use Rattle.tp_online.specs.Showing.{ShowsJournal, WasShown};
-ghost use Rattle.tp_report.specs.Telling.{Grows, GrowsPart, Reports};
+ghost use Rattle.tp_report.specs.Telling.{GrowsBy, GrowsPart, Reports};
 ghost use Rattle.tp_textpeer.specs.Output.{AppendsPart};
 
 use crate::hosting::{ServerAt, Stage, take_part};
-use crate::listening::{Listening, bound, listen};
-use crate::seating::{ended, seated};
+use crate::listening::{Listening, bind, listen};
+use crate::seating::{end_serving, seat_peer};
 use std::alloc::Global;
 use std::fs::OpenFile;
 use std::io::Write;
@@ -63,7 +63,7 @@ fn bound_beside<R: Net>(
     ensures { IfOk result (λ b. (is_some b.0 ≡ is_some serve.entry) × (is_some b.1 ≡ is_some serve.entry)) }
 {
     match serve {
-        Some(addr) => match bound(rt, addr) {
+        Some(addr) => match bind(rt, addr) {
             Ok((listener, port)) => Ok((Some(listener), Some(port))),
             Err(error) => Err(JobError::Unreached(Unreached::by(&error))),
         },
@@ -107,7 +107,7 @@ fn server_of<'a, R>(rt: &'a R, hosting: &Hosting<'a>) -> Option<ServerAt<'a, R>>
 
 // Shows the peer, on as many seats as there may be, and ends that with those that came back: the peer that the closing gives.
 // One whose journal failed meanwhile is refused.
-fn shown<
+fn show_peer<
     R: Net + Threads + Wait + Clock + Eprint + AllocGlobal + Sync,
     F: Write + OpenFile + Send + Drop,
 >(
@@ -123,11 +123,11 @@ where
     requires { is_some stage.now.sessions ≡ is_some hosting.now.serve }
     ensures { IfOk result (λ p. WasShown hosting.now peer p) }
 {
-    match seated(rt.alloc(), peer, MAX_SEATS) {
+    match seat_peer(rt.alloc(), peer, MAX_SEATS) {
         Ok((served, seats)) => {
             let server = server_of(rt, hosting);
             match take_part(rt, rt.alloc(), stage, &server, hosting, &served, seats, key) {
-                Ok(back) => Ok(ended(served, back)?),
+                Ok(back) => Ok(end_serving(served, back)?),
                 Err(error) => Err(error),
             }
         }
@@ -152,7 +152,7 @@ where
     R::Stream: Send,
     ensures shown { IfOk result (λ p. WasShown hosting.now listening.peer p) }
     ensures ok { OnOk result
-        (Grows (IsPageShown hosting.now) (W.contents out.old) (W.contents out.new)) }
+        (GrowsBy (IsPageShown hosting.now) (W.contents out.old) (W.contents out.new)) }
     ensures err { IfErr result (λ _. Keeps (W.contents out.old) (W.contents out.new)
         ⊎ GrowsPart (IsPageShown hosting.now) (W.contents out.old) (W.contents out.new)) }
 {
@@ -164,7 +164,7 @@ where
     let page = SocketAddr::new(hosting.page.ip(), port);
     match stage_at(rt, listener, page, hosting.serve) {
         Ok((stage, beside)) => match tell_page(rt.alloc(), page, beside, out) {
-            Ok(()) => shown(rt, &stage, hosting, peer, key),
+            Ok(()) => show_peer(rt, &stage, hosting, peer, key),
             Err(error) => {
                 drop(peer);
                 Err(error)
@@ -208,7 +208,7 @@ where
     ensures shown { IfOk result (λ p. OfLocked (R.saw rt.now) file.now
         (λ bytes. ShowsJournal hosting.entry key bytes p)) }
     ensures ok { OnOk result
-        (Grows (IsPageShown hosting.entry) (W.contents out.old) (W.contents out.new)) }
+        (GrowsBy (IsPageShown hosting.entry) (W.contents out.old) (W.contents out.new)) }
     ensures err { IfErr result (λ _. Keeps (W.contents out.old) (W.contents out.new)
         ⊎ GrowsPart (IsPageShown hosting.entry) (W.contents out.old) (W.contents out.new)) }
 {

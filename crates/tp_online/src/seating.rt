@@ -19,7 +19,7 @@ use tp_report::JobError;
 use tp_served::{Seat, Served};
 
 /// The peer, served to as many threads as it gets seats, 1 to 64. The only refusal is `OutOfMemory`.
-pub(crate) fn seated<J: Journal>(
+pub(crate) fn seat_peer<J: Journal>(
     alloc: Global,
     peer: Peer<J>,
     seats: usize,
@@ -46,7 +46,7 @@ fn still_runs<J: Journal>(peer: Peer<J>) -> Result<Peer<J>, CommandError>
 }
 
 /// Ends the serving, with all seats: the peer that the closing gives back. One whose journal failed meanwhile is refused.
-pub(crate) fn ended<J: Journal>(
+pub(crate) fn end_serving<J: Journal>(
     served: Served<J>,
     seats: Vec<Seat>,
 ) -> Result<Peer<J>, CommandError>

@@ -4,16 +4,16 @@ ghost use Rattle.std.specs.Prelude.{◌≡◌, ◌⊎◌, ℕ, IfOk, IfErr, None
 ghost use Rattle.std.specs.Io.KnownBytes.{Appends, Keeps};
 ghost use Rattle.std.specs.String.{string_bytes};
 ghost use Rattle.tp_textpeer.specs.Output.{AppendsPart};
-ghost use Rattle.tp_online.specs.Network.{IsServed, IsSynced, listening_line as line_of_port, served_line as line_of_sessions};
-ghost use Rattle.tp_report.specs.Telling.{applied_line as line_of_applied, Grows, GrowsPart, Leaves, Reports};
+ghost use Rattle.tp_online.specs.Network.{IsServeOutput, IsSynced, listening_line as line_of_port, served_line as line_of_sessions};
+ghost use Rattle.tp_report.specs.Telling.{applied_line as line_of_applied, GrowsBy, GrowsPart, RefusesPrinting, Reports};
 ghost use Rattle.tp_disk.specs.Opening.{CutsFile, MayCutFile};
 ghost use Rattle.tp_disk.specs.DiskView.{OfLocked};
 ghost use Rattle.tp_session.specs.declared.session.Role.TheVariants.{Client};
-ghost use Rattle.tp_net.specs.Sessions.{MeetsAlone};
+ghost use Rattle.tp_net.specs.Sessions.{AttemptsSessionAlone};
 ghost use Rattle.tp_online.specs.Sessions.{HasMet, ServesJournal, WasServed};
 
-use crate::listening::{Listening, listen, opened};
-use crate::seating::{ended, hold, seated};
+use crate::listening::{Listening, listen, open_peer};
+use crate::seating::{end_serving, hold, seat_peer};
 use std::alloc::Global;
 use std::fs::OpenFile;
 use std::io::Write;
@@ -91,14 +91,14 @@ fn tell_applied<W: Write>(alloc: Global, applied: u64, out: &mut W) -> Result<()
     ensures ok { OnOk result
         (Appends (W.contents out.old) (W.contents out.new) (line_of_applied applied)) }
     ensures err { IfErr result
-        (λ e. Leaves IsSynced e (W.contents out.old) (W.contents out.new)) }
+        (λ e. RefusesPrinting IsSynced (W.contents out.old) e (W.contents out.new)) }
 {
     put(out, applied_text(alloc, Some(applied)))
 }
 
 // Holds the sessions, and ends the serving with the seats that came back: the peer that the closing gives. One whose
 // journal failed meanwhile is refused.
-fn held<R: Disk + Net + Threads + Wait + Clock + Eprint + AllocGlobal + Sync>(
+fn hold_sessions<R: Disk + Net + Threads + Wait + Clock + Eprint + AllocGlobal + Sync>(
     rt: &R,
     listening: Listening<R::Listener, R::File>,
     how: &Serving,
@@ -113,7 +113,7 @@ where
         port: _,
         peer,
     } = listening;
-    match seated(rt.alloc(), peer, how.workers) {
+    match seat_peer(rt.alloc(), peer, how.workers) {
         Ok((served, seats)) => {
             let gate = Log {
                 rt,
@@ -129,7 +129,7 @@ where
                 how.patience,
                 &gate,
             ) {
-                Ok(back) => Ok(ended(served, back)?),
+                Ok(back) => Ok(end_serving(served, back)?),
                 Err(error) => Err(error),
             }
         }
@@ -137,8 +137,11 @@ where
     }
 }
 
-// The same, and prints how many they were.
-fn held_and_told<R: Disk + Net + Threads + Wait + Clock + Eprint + AllocGlobal + Sync, W: Write>(
+// Holds sessions as [`held`] does, and prints how many they were.
+fn held_and_reported<
+    R: Disk + Net + Threads + Wait + Clock + Eprint + AllocGlobal + Sync,
+    W: Write,
+>(
     rt: &R,
     listening: Listening<R::Listener, R::File>,
     how: &Serving,
@@ -154,7 +157,7 @@ where
         (λ _. AppendsPart (W.contents out.old) (W.contents out.new)
         (line_of_sessions how.now.sessions)) }
 {
-    match held(rt, listening, how) {
+    match hold_sessions(rt, listening, how) {
         Ok(peer) => match tell_sessions(rt.alloc(), how.sessions, out) {
             Ok(()) => Ok(peer),
             Err(error) => {
@@ -178,12 +181,12 @@ where
     R::Stream: Send,
     ensures served { IfOk result (λ p. WasServed listening.peer how.now.workers p) }
     ensures ok { OnOk result
-        (Grows (IsServed how.now.sessions) (W.contents out.old) (W.contents out.new)) }
+        (GrowsBy (IsServeOutput how.now.sessions) (W.contents out.old) (W.contents out.new)) }
     ensures err { IfErr result
-        (λ _. GrowsPart (IsServed how.now.sessions) (W.contents out.old) (W.contents out.new)) }
+        (λ _. GrowsPart (IsServeOutput how.now.sessions) (W.contents out.old) (W.contents out.new)) }
 {
     match tell_port(rt.alloc(), listening.port, out) {
-        Ok(()) => held_and_told(rt, listening, how, out),
+        Ok(()) => held_and_reported(rt, listening, how, out),
         Err(error) => {
             drop(listening);
             Err(error)
@@ -192,8 +195,9 @@ where
 }
 
 /// Serves the journal at a path, with as many sessions at once as there are workers, 1 to 64. The port on which it listens
-/// is printed before the first session, and how many sessions there were behind the last. What was cut off the journal is said
-/// once it listens. Where it is verbose a line of each session is printed by the runtime as it ends, and not to `err`. The peer that the closing gave back; one whose journal failed meanwhile is refused.
+/// is printed before the first session, and how many sessions there were after the last. What was cut off the journal
+/// is said once it listens. Where it is verbose a line of each session is printed by the runtime as it ends, and not to
+/// `err`. The peer that the closing gave back; one whose journal failed meanwhile is refused.
 pub fn serve_file<
     R: Disk + Net + Threads + Wait + Clock + Eprint + AllocGlobal + Sync,
     W: Write,
@@ -221,9 +225,9 @@ where
     ensures served { IfOk result (λ p. OfLocked (R.saw rt.now) file.now
         (λ bytes. ServesJournal key bytes how.now.workers p)) }
     ensures ok { OnOk result
-        (Grows (IsServed how.now.sessions) (W.contents out.old) (W.contents out.new)) }
+        (GrowsBy (IsServeOutput how.now.sessions) (W.contents out.old) (W.contents out.new)) }
     ensures err { IfErr result (λ _. Keeps (W.contents out.old) (W.contents out.new)
-        ⊎ GrowsPart (IsServed how.now.sessions) (W.contents out.old) (W.contents out.new)) }
+        ⊎ GrowsPart (IsServeOutput how.now.sessions) (W.contents out.old) (W.contents out.new)) }
 {
     let actor = draw_actor(rt, key)?;
     match listen(rt, file, addr, actor, cut) {
@@ -255,7 +259,7 @@ fn meet_there<R: Net + AllocGlobal, J: Journal>(
     patience: Option<Duration>,
     peer: &mut Peer<J>,
 ) -> Result<u64, JobError>
-    ensures { IfOk result (λ n. MeetsAlone Client peer.old (Ok n) peer.new) }
+    ensures { IfOk result (λ n. AttemptsSessionAlone Client peer.old (Ok n) peer.new) }
 {
     match reach_there(rt, addr, patience) {
         Ok(stream) => match hold_alone_on(rt.alloc(), stream, patience, Role::Client, peer) {
@@ -282,7 +286,7 @@ pub(crate) fn applied_by<R: Disk + Net + AllocGlobal>(
         (λ met. HasMet (R.saw rt.now) file.now key Client met.applied met.peer) }
 {
     let actor = draw_actor(rt, key)?;
-    let mut peer = opened(rt, file, actor, cut)?;
+    let mut peer = open_peer(rt, file, actor, cut)?;
     match meet_there(rt, addr, patience, &mut peer) {
         Ok(applied) => Ok(Met { peer, applied }),
         Err(error) => {
@@ -311,7 +315,7 @@ pub fn sync_file<R: Disk + Net + AllocGlobal, W: Write>(
     ensures ok { IfOk result (λ met. Appends (W.contents out.old) (W.contents out.new)
         (line_of_applied met.applied)) }
     ensures err { IfErr result
-        (λ e. Leaves IsSynced e (W.contents out.old) (W.contents out.new)) }
+        (λ e. RefusesPrinting IsSynced (W.contents out.old) e (W.contents out.new)) }
 {
     let met = applied_by(rt, file, addr, patience, key, cut)?;
     match tell_applied(rt.alloc(), met.applied, out) {

@@ -2,14 +2,14 @@
 
 ghost use Rattle.std.specs.Prelude.{◌≡◌, ◌⊎◌, IfErr, IfOk, None, Ok, OnErr, OnOk};
 ghost use Rattle.std.specs.Io.KnownBytes.{Keeps};
-ghost use Rattle.tp_net.specs.Sessions.{MeetsAlone};
+ghost use Rattle.tp_net.specs.Sessions.{AttemptsSessionAlone};
 ghost use Rattle.tp_disk.specs.Opening.{CutsFile, MayCutFile};
-ghost use Rattle.tp_report.specs.JobError.{failed};
+ghost use Rattle.tp_report.specs.JobError.{io_failure};
 ghost use Rattle.tp_online.specs.Network.{AreFrames};
-ghost use Rattle.tp_report.specs.Telling.{Grows};
+ghost use Rattle.tp_report.specs.Telling.{GrowsBy};
 ghost use Rattle.tp_online.specs.Sessions.{HasMet};
 
-use crate::listening::opened;
+use crate::listening::open_peer;
 use crate::serving::Met;
 use std::alloc::Global;
 use std::io::{Read, Write};
@@ -28,10 +28,10 @@ fn meet_over<I: Read, O: Write, J: Journal>(
     role: Role,
     peer: &mut Peer<J>,
 ) -> Result<u64, JobError>
-    ensures meets { IfOk result (λ n. MeetsAlone role peer.old (Ok n) peer.new) }
-    ensures frames { OnOk result (Grows AreFrames (O.contents out.old) (O.contents out.new)) }
+    ensures meets { IfOk result (λ n. AttemptsSessionAlone role peer.old (Ok n) peer.new) }
+    ensures frames { OnOk result (GrowsBy AreFrames (O.contents out.old) (O.contents out.new)) }
     ensures part { IfErr result
-        (λ e. (e ≡ failed) ⊎ Grows AreFrames (O.contents out.old) (O.contents out.new)) }
+        (λ e. (e ≡ io_failure) ⊎ GrowsBy AreFrames (O.contents out.old) (O.contents out.new)) }
 {
     match hold_alone(alloc, input, out, role, peer) {
         Ok(applied) => Ok(applied),
@@ -55,12 +55,12 @@ pub fn session_file<R: Disk + AllocGlobal, I: Read, O: Write>(
     ensures may_cut { OnErr result (MayCutFile (R.saw rt.now) file.now cut.new) }
     ensures met { IfOk result
         (λ met. HasMet (R.saw rt.now) file.now key role met.applied met.peer) }
-    ensures frames { OnOk result (Grows AreFrames (O.contents out.old) (O.contents out.new)) }
+    ensures frames { OnOk result (GrowsBy AreFrames (O.contents out.old) (O.contents out.new)) }
     ensures part { IfErr result (λ e. Keeps (O.contents out.old) (O.contents out.new)
-        ⊎ ((e ≡ failed) ⊎ Grows AreFrames (O.contents out.old) (O.contents out.new))) }
+        ⊎ ((e ≡ io_failure) ⊎ GrowsBy AreFrames (O.contents out.old) (O.contents out.new))) }
 {
     let actor = draw_actor(rt, key)?;
-    let mut peer = opened(rt, file, actor, cut)?;
+    let mut peer = open_peer(rt, file, actor, cut)?;
     match meet_over(rt.alloc(), input, out, role, &mut peer) {
         Ok(applied) => Ok(Met { peer, applied }),
         Err(error) => {

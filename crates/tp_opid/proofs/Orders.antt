@@ -147,7 +147,7 @@ pub Below-trans : (a b c : OpId) → Below a b → Below b c → Below a c
 unfolding Below
 Below-trans a b c h k = id_total.trans a b c h k
 
--- of two identifiers one stands below the other, or they are one
+-- of two identifiers one is below the other, or they are one
 pub Below-cases : (a b : OpId) → Below a b ⊎ ((a ≡ b) ⊎ Below b a)
 unfolding Below
 Below-cases a b =
@@ -161,7 +161,7 @@ Below-cases a b =
 pub Below-asym : (a b : OpId) → Below a b → Below b a → ⊥
 Below-asym a b h k = Below-irreflexive a (Below-trans a b a h k)
 
--- a smaller counter stands below, whoever the actors are
+-- one with a smaller counter is below, whoever the actors are
 pub id_cmp-counter : (a b : OpId) → a.counter < b.counter → id_cmp a b ≡ Less
 unfolding id_cmp
 id_cmp-counter a b lt =

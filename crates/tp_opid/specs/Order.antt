@@ -27,7 +27,7 @@ doc_id_cmp a b = slice_cmp nat_cmp a.0 b.0
 unfoldable pub id_cmp : OpId → OpId → Ordering
 id_cmp a b = ordering_then (nat_cmp a.counter b.counter) (slice_cmp nat_cmp a.actor.0 b.actor.0)
 
--- a stands below b in the order of identifiers
+-- a is below b in the order of identifiers
 unfoldable pub Below : OpId → OpId → Type 0
 Below a b = id_cmp a b ≡ Less
 

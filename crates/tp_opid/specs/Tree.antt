@@ -1,4 +1,4 @@
--- The inserts of a text as a tree: each element stands after the start or after an element with a smaller identifier
+-- The inserts of a text as a tree: each element is placed after the start or after an element with a smaller identifier
 -- (RGA, Roh and others 2011; the timestamped insertion tree of Attiya and others, PODC 2016). All of it depends on
 -- the inserts as a set.
 use Rattle.std.specs.Prelude.{◌≡◌, ℕ, false, List, [], ◌∷◌}
@@ -23,9 +23,9 @@ abbrev pub IsNew : List Insert → OpId → Type 0
 IsNew S x = (e : Insert) → In e S → id_eq e.id x ≡ false
 
 -- No two elements of L have one identifier.
-abbrev pub AreApart : List Insert → Type 0
-AreApart [] = Unit {0}
-AreApart (e ∷ L) = IsNew L e.id × AreApart L
+abbrev pub IdsApart : List Insert → Type 0
+IdsApart [] = Unit {0}
+IdsApart (e ∷ L) = IsNew L e.id × IdsApart L
 
 -- x is above every identifier of S.
 abbrev pub IsAboveAll : List Insert → OpId → Type 0
@@ -41,7 +41,7 @@ abbrev pub IsReferenceBelow : List Insert → OpId → Place → Type 0
 IsReferenceBelow S x Start = Unit {0}
 IsReferenceBelow S x (After r) = IsThere S r × Below r x
 
--- S is a tree: no identifier is that of two elements, and each element stands after the start or an earlier element.
+-- S is a tree: no identifier is that of two elements, and each element is placed after the start or an earlier element.
 pub record IsTree (S : List Insert) : Type 0 where
   pub once : (a b : Insert) → In a S → In b S → a.id ≡ b.id → a ≡ b
   pub placed : (e : Insert) → In e S → IsReferenceBelow S e.id e.after

@@ -25,7 +25,7 @@ impl Actor {
         matches!(self.cmp(other), Ordering::Equal)
     }
 
-    /// How the two stand to each other in the order of their bytes.
+    /// How the two compare in the order of their bytes.
     #[tactic(auto, unfolding(crate::specs::Order::actor_cmp))]
     pub fn order(&self, other: &Actor) -> Ordering
         ensures { result ≡ actor_cmp self.now other.now }

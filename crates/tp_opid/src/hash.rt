@@ -26,7 +26,7 @@ impl Hash {
         matches!(self.cmp(other), Ordering::Equal)
     }
 
-    /// How the two stand to each other in the order of their bytes.
+    /// How the two compare in the order of their bytes.
     #[tactic(auto, unfolding(crate::specs::Order::hash_cmp))]
     pub fn order(&self, other: &Hash) -> Ordering
         ensures { result ≡ hash_cmp self.now other.now }

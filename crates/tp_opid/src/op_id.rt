@@ -10,7 +10,7 @@ use std::cmp::Ordering;
 /// The identifier of an operation: the counter that its author had reached, and the author.
 ///
 /// Identifiers are ordered by counter and then by the actor's bytes, as Lamport timestamps are. In RGA
-/// (Roh and others 2011) this order decides which of several inserts after one reference stands first.
+/// (Roh and others 2011) this order decides which of several inserts after one reference is first.
 #[derive(Clone, Copy, Debug, PartialEq, Eq, PartialOrd, Ord, Hash)]
 pub struct OpId {
     /// From 1 to 2^48 - 1.
@@ -20,7 +20,7 @@ pub struct OpId {
 }
 
 impl OpId {
-    /// Whether the identifier stands below another.
+    /// Whether the identifier is below another.
     #[tactic(auto, unfolding(crate::specs::Order::id_cmp, crate::specs::Order::Below))]
     pub fn is_below(&self, other: &OpId) -> bool
         ensures { IsTrue result ↔ Below self.now other.now }
@@ -58,7 +58,7 @@ impl Place {
         }
     }
 
-    /// How the two stand to each other in their order, where the start is below every identifier.
+    /// How the two compare in their order, where the start is below every identifier.
     #[tactic(auto, unfolding(crate::specs::Order::id_cmp))]
     pub fn order(&self, other: &Place) -> Ordering
         ensures { result ≡ place_cmp self.now other.now }

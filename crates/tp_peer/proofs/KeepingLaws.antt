@@ -1,10 +1,10 @@
 -- What a journal is once records were appended, and what enters a history.
-use Rattle.tp_peer.proofs.Common.{◌≡◌, ℕ, suc, ◌+◌, ◌≤◌, inl, inr, List, [], ◌∷◌, ◌++◌, length, Bool, cond, refl, sym, ap, ◌∙◌, subst, append_assoc, append-nil, length-append, arith, ChangeParts, IsChange, Intake, Run, Turn, begin, record_of, records_of, IsHistory, history_push, AppendsRecord, Device, without_fuse, after_appends, JournalState, PeerData, Done, Report, Stopped, at_end, Takes, journal_of, receiver_of, AllChanges, most_waiting, has_all, delivery, slots, takes_slot, with_slots, EntersAfter, Grows, KeepsAll, progress, Run-keeps, TakesOut, Turn-cases, AllIn}
+use Rattle.tp_peer.proofs.Common.{◌≡◌, ℕ, suc, ◌+◌, ◌≤◌, inl, inr, List, [], ◌∷◌, ◌++◌, length, Bool, cond, refl, sym, ap, ◌∙◌, subst, append_assoc, append-nil, length-append, arith, ChangeParts, IsChange, Intake, SomeTurns, Turn, begin, record_of, bytes_of_records, IsHistory, history_push, AppendsRecord, Device, without_fuse, after_appends, JournalState, PeerState, Done, Report, Stopped, at_end, ReceivesAndAppends, journal_of, receiver_of, AllChanges, most_waiting, has_all, delivery, slots, takes_slot, with_slots, EntersAfter, Grows, KeepsAll, progress, SomeTurns-keeps, TakesOut, Turn-cases, AllIn}
 use Rattle.tp_receive.specs.declared.error.ReceiveError.TheVariants as receive
 
 -- The records of the changes were appended.
 pub record AreAppended (k : JournalState) (new : List ChangeParts) (k' : JournalState) : Type 0 where
-  pub content : k'.content ≡ k.content ++ records_of new
+  pub content : k'.content ≡ k.content ++ bytes_of_records new
   pub device : k'.device ≡ after_appends new k.device
   pub limits : AllChanges new
 
@@ -23,7 +23,7 @@ all_appended (c ∷ new) k k' h =
     let first = h.1 in
     let rest = all_appended new h.0 k' h.2 in
     record {
-      content = rest.content ∙ ap (λ l. l ++ records_of new) first.content ∙ append_assoc k.content (record_of c) (records_of new);
+      content = rest.content ∙ ap (λ l. l ++ bytes_of_records new) first.content ∙ append_assoc k.content (record_of c) (bytes_of_records new);
       device = rest.device ∙ still_without new h.0.device k.device first.device;
       limits = λ d i. elim i [ inl e ↦ subst IsChange (sym e) first.limits | inr j ↦ rest.limits d j ];
     }
@@ -37,7 +37,7 @@ history_grows (c ∷ new) C h e l =
 
 -- ---- how many changes entered, and how many wait
 
--- what entered, waits and is still to come is no more than so many
+-- what entered, waits and is still to come is no more than `most`
 abbrev AtMost : {S : Type 0} → ℕ → Intake S → Type 0
 AtMost most s = length s.applied + (length s.waiting + length s.coming) ≤ most
 
@@ -84,35 +84,35 @@ all_come : (C V K : List ChangeParts) → length (with_slots V (delivery C K)) �
 all_come C V [] = refl
 all_come C V (c ∷ K) = ap suc (all_come (cond (has_all C c.deps) (C ++ c ∷ []) C) (cond (takes_slot V (c, has_all C c.deps)) (V ++ c ∷ []) V) K)
 
-run_few : {S : Type 0} (keeps : S → ChangeParts → S → Type 0) (k : S) (C W K new : List ChangeParts) (at : Intake S) → Run keeps (begin k C W K) at → at.applied ≡ C ++ new
+run_few : {S : Type 0} (keeps : S → ChangeParts → S → Type 0) (k : S) (C W K new : List ChangeParts) (at : Intake S) → SomeTurns keeps (begin k C W K) at → at.applied ≡ C ++ new
     → length new ≤ length W + length K
 run_few {S} keeps k C W K new at run is =
     let most = length C + (length W + length K) in
     let come = all_come C W K in
-    let few : AtMost most at = Run-keeps keeps (AtMost most) (AtMost-turn keeps most) (begin k C W K) at run (omega arith) in
+    let few : AtMost most at = SomeTurns-keeps keeps (AtMost most) (AtMost-turn keeps most) (begin k C W K) at run (omega arith) in
     let len : length at.applied ≡ length C + length new = ap length is ∙ length-append C new in
     omega arith
 
 -- ---- how far receiving came
 
 -- what receiving sees as the changes K come to the peer
-abbrev pub coming : PeerData → List ChangeParts → Intake JournalState
+abbrev pub coming : PeerState → List ChangeParts → Intake JournalState
 coming p K = begin (journal_of p) p.applied p.waiting K
 
 -- the peer as it is where receiving came to `at`
-abbrev pub reached : PeerData → Intake JournalState → PeerData
+abbrev pub reached : PeerState → Intake JournalState → PeerState
 reached p at = record p { applied = at.applied; waiting = at.waiting; journal = at.keeper.content; device = at.keeper.device }
 
 -- Receiving the changes K came so far, and the device didn't fail.
-pub record Reaches (p : PeerData) (K : List ChangeParts) (p' : PeerData) : Type 0 where
+pub record Reaches (p : PeerState) (K : List ChangeParts) (p' : PeerState) : Type 0 where
   pub at : Intake JournalState
-  pub run : Run AppendsRecord (coming p K) at
+  pub run : SomeTurns AppendsRecord (coming p K) at
   pub left : p' ≡ reached p at
 
-pub reaches_all : (p : PeerData) (K : List ChangeParts) (r : Report) (p' : PeerData) → Takes p K (Done r) p' → Reaches p K p'
+pub reaches_all : (p : PeerState) (K : List ChangeParts) (r : Report) (p' : PeerState) → ReceivesAndAppends p K (Done r) p' → Reaches p K p'
 reaches_all p K r p' t = record { at = at_end (receiver_of p') r; run = t.receives.run; left = t.left }
 
-pub reaches_part : (p : PeerData) (K : List ChangeParts) (p' : PeerData) → Takes p K (Stopped receive.OutOfMemory) p' → Reaches p K p'
+pub reaches_part : (p : PeerState) (K : List ChangeParts) (p' : PeerState) → ReceivesAndAppends p K (Stopped receive.OutOfMemory) p' → Reaches p K p'
 reaches_part p K p' t =
     let x = t.receives.1 in
     let kept : journal_of p' ≡ x.at.keeper = elim x.by [ inl same ↦ same | inr turn ↦ turn.refused ] in
@@ -127,7 +127,7 @@ reaches_part p K p' t =
     }
 
 -- How far receiving the changes K came, and what was appended until then.
-pub record Advances (p : PeerData) (K : List ChangeParts) (at : Intake JournalState) : Type 0 where
+pub record Advances (p : PeerState) (K : List ChangeParts) (at : Intake JournalState) : Type 0 where
   pub new : List ChangeParts
   pub grows : Grows p.applied (p.waiting ++ K) at.applied new
   pub waits : AllIn at.waiting (p.waiting ++ K)
@@ -135,7 +135,7 @@ pub record Advances (p : PeerData) (K : List ChangeParts) (at : Intake JournalSt
   pub few : length new ≤ length p.waiting + length K
   pub few_wait : length p.waiting ≤ most_waiting → length at.waiting ≤ most_waiting
 
-pub run_advances : (p : PeerData) (K : List ChangeParts) (at : Intake JournalState) → Run AppendsRecord (coming p K) at → Advances p K at
+pub run_advances : (p : PeerState) (K : List ChangeParts) (at : Intake JournalState) → SomeTurns AppendsRecord (coming p K) at → Advances p K at
 run_advances p K at r =
     let g = progress AppendsRecord (journal_of p) p.applied p.waiting K at r in
     record {
@@ -144,5 +144,5 @@ run_advances p K at r =
       waits = g.waits;
       appended = all_appended g.new (journal_of p) at.keeper g.kept;
       few = run_few AppendsRecord (journal_of p) p.applied p.waiting K g.new at r g.grows.begins;
-      few_wait = λ h. Run-keeps AppendsRecord FewWait (FewWait-turn AppendsRecord) (coming p K) at r h;
+      few_wait = λ h. SomeTurns-keeps AppendsRecord FewWait (FewWait-turn AppendsRecord) (coming p K) at r h;
     }

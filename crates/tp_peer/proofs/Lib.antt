@@ -5,7 +5,7 @@ pub mod KeepingLaws
 pub mod AppendingLaws
 pub mod TakingLaws
 pub mod StepLaws
-pub mod ReplyLaws
+pub mod RunningLaws
 pub mod PeerLaws
 pub mod OpeningLaws
 pub mod EarlierLaws

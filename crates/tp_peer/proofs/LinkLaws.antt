@@ -1,5 +1,5 @@
 -- What is known on each link, once one was changed, made or forgotten.
-use Rattle.tp_peer.proofs.Common.{◌≡◌, ◌⊎◌, inl, inr, ℕ, suc, zero, ◌+◌, ◌<◌, ◌≤◌, List, [], ◌∷◌, ◌++◌, length, take, Bool, true, false, ◌||◌, eqb, eqb-true, length-append, refl, sym, ap, ◌∙◌, subst, arith, slice_index_or, nat_le, SyncParts, fresh, MovesLinks, TouchesLink, Call, Edit, Forget, Generate, Merge, Read, ReadAt, ReadHeads, Receive, AreLinks, IsAt, NumbersOnce, has_link, is_one_too_many, known_of, with_link, without_link, neither, neither_left, neither_right, or_left}
+use Rattle.tp_peer.proofs.Common.{◌≡◌, ◌⊎◌, inl, inr, ℕ, suc, zero, ◌+◌, ◌<◌, ◌≤◌, List, [], ◌∷◌, ◌++◌, length, take, Bool, true, false, ◌||◌, eqb, eqb-true, length-append, refl, sym, ap, ◌∙◌, subst, arith, slice_index_or, nat_le, SyncParts, new_sync_state, MovesLinks, TouchesLink, Call, Edit, Forget, Generate, Merge, Read, ReadAt, ReadHeads, Receive, AreLinks, IsLinkAt, NumbersOnce, has_link, is_one_too_many, known_of, with_link, without_link, neither, neither_left, neither_right, or_left}
 use Rattle.std.proofs.lemmas.Bool.{eq-eqb}
 use Rattle.std.proofs.lemmas.Bool.Decides.{nat_tests}
 use Rattle.std.specs.List.{remove, slice_set}
@@ -16,7 +16,7 @@ split false f g = g refl
 turned : (n m : ℕ) → eqb n m ≡ false → eqb m n ≡ false
 turned n m f = split (eqb m n) (λ t. absurd (let e : eqb n m ≡ true = eq-eqb n m (sym (eqb-true m n t)) in cc)) (λ g. g)
 
--- ---- where a link stands
+-- ---- where a link is
 
 pub not_same : (n m : ℕ) → (n ≡ m → ⊥) → eqb n m ≡ false
 not_same n m h = split (eqb n m) (λ t. absurd (h (eqb-true n m t))) (λ f. f)
@@ -25,15 +25,15 @@ pub has_last : (L : List (ℕ × SyncParts)) (l : ℕ × SyncParts) (n : ℕ) �
 has_last [] l n h k = neither (eqb l.0 n) false k refl
 has_last (m ∷ L) l n h k = neither (eqb m.0 n) (has_link (L ++ l ∷ []) n) (neither_left (eqb m.0 n) (has_link L n) h) (has_last L l n (neither_right (eqb m.0 n) (has_link L n) h) k)
 
--- the index among the links behind the first
-rest_at : (l : ℕ × SyncParts) (L : List (ℕ × SyncParts)) (n i : ℕ) → IsAt (l ∷ L) n (suc i) → IsAt L n i
+-- the index among the links after the first
+rest_at : (l : ℕ × SyncParts) (L : List (ℕ × SyncParts)) (n i : ℕ) → IsLinkAt (l ∷ L) n (suc i) → IsLinkAt L n i
 rest_at l L n i a = record { within = let w = a.within in omega arith; first = neither_right (eqb l.0 n) (has_link (take i L) n) a.first; number = a.number }
 
 -- the first isn't the one
-not_first : (l : ℕ × SyncParts) (L : List (ℕ × SyncParts)) (n i : ℕ) → IsAt (l ∷ L) n (suc i) → eqb l.0 n ≡ false
+not_first : (l : ℕ × SyncParts) (L : List (ℕ × SyncParts)) (n i : ℕ) → IsLinkAt (l ∷ L) n (suc i) → eqb l.0 n ≡ false
 not_first l L n i a = neither_left (eqb l.0 n) (has_link (take i L) n) a.first
 
-pub at_with : (L : List (ℕ × SyncParts)) (n i : ℕ) (s : SyncParts) → IsAt L n i → with_link L n s ≡ slice_set L i (n, s)
+pub at_with : (L : List (ℕ × SyncParts)) (n i : ℕ) (s : SyncParts) → IsLinkAt L n i → with_link L n s ≡ slice_set L i (n, s)
 at_with [] n i s a = absurd (let w = a.within in omega arith)
 at_with (l ∷ L) n zero s a = let h : eqb l.0 n ≡ true = eq-eqb l.0 n (a.number l) in rw h refl
 at_with (l ∷ L) n (suc i) s a = rw (not_first l L n i a) (ap (λ (M : List (ℕ × SyncParts)). l ∷ M) (at_with L n i s (rest_at l L n i a)))
@@ -43,7 +43,7 @@ none_with [] n s h = refl
 none_with (l ∷ L) n s h =
     rw (neither_left (eqb l.0 n) (has_link L n) h) (ap (λ (M : List (ℕ × SyncParts)). l ∷ M) (none_with L n s (neither_right (eqb l.0 n) (has_link L n) h)))
 
-pub at_known : (L : List (ℕ × SyncParts)) (n i : ℕ) (d : ℕ × SyncParts) → IsAt L n i → known_of L n ≡ (slice_index_or L i d).1
+pub at_known : (L : List (ℕ × SyncParts)) (n i : ℕ) (d : ℕ × SyncParts) → IsLinkAt L n i → known_of L n ≡ (slice_index_or L i d).1
 at_known [] n i d a = absurd (let w = a.within in omega arith)
 at_known (l ∷ L) n zero d a = let h : eqb l.0 n ≡ true = eq-eqb l.0 n (a.number l) in rw h refl
 at_known (l ∷ L) n (suc i) d a = rw (not_first l L n i a) (at_known L n i d (rest_at l L n i a))
@@ -53,18 +53,18 @@ none_without [] n h = refl
 none_without (l ∷ L) n h =
     rw (neither_left (eqb l.0 n) (has_link L n) h) (ap (λ (M : List (ℕ × SyncParts)). l ∷ M) (none_without L n (neither_right (eqb l.0 n) (has_link L n) h)))
 
-pub at_without : (L : List (ℕ × SyncParts)) (n i : ℕ) → NumbersOnce L → IsAt L n i → without_link L n ≡ remove L i
+pub at_without : (L : List (ℕ × SyncParts)) (n i : ℕ) → NumbersOnce L → IsLinkAt L n i → without_link L n ≡ remove L i
 at_without [] n i once a = absurd (let w = a.within in omega arith)
 at_without (l ∷ L) n zero once a =
     let h : eqb l.0 n ≡ true = eq-eqb l.0 n (a.number l) in
     rw h (none_without L n (subst (λ (m : ℕ). has_link L m ≡ false) (a.number l) once.0))
 at_without (l ∷ L) n (suc i) once a = rw (not_first l L n i a) (ap (λ (M : List (ℕ × SyncParts)). l ∷ M) (at_without L n i once.1 (rest_at l L n i a)))
 
-pub none_known : (L : List (ℕ × SyncParts)) (n : ℕ) → has_link L n ≡ false → known_of L n ≡ fresh
+pub none_known : (L : List (ℕ × SyncParts)) (n : ℕ) → has_link L n ≡ false → known_of L n ≡ new_sync_state
 none_known [] n h = refl
 none_known (l ∷ L) n h = rw (neither_left (eqb l.0 n) (has_link L n) h) (none_known L n (neither_right (eqb l.0 n) (has_link L n) h))
 
-pub at_has : (L : List (ℕ × SyncParts)) (n i : ℕ) → IsAt L n i → has_link L n ≡ true
+pub at_has : (L : List (ℕ × SyncParts)) (n i : ℕ) → IsLinkAt L n i → has_link L n ≡ true
 at_has [] n i a = absurd (let w = a.within in omega arith)
 at_has (l ∷ L) n zero a = or_left (eqb l.0 n) (has_link L n) (eq-eqb l.0 n (a.number l))
 at_has (l ∷ L) n (suc i) a = rw (not_first l L n i a) (at_has L n i (rest_at l L n i a))
@@ -122,7 +122,7 @@ len_without (l ∷ L) n = let r = len_without L n in split (eqb l.0 n) (λ t. rw
 below : (n : ℕ) → nat_le MAX_LINKS n ≡ false → n < MAX_LINKS
 below n f = grind (arith, nat_tests)
 
-pub old_is_none_too_many : (L : List (ℕ × SyncParts)) (n i : ℕ) → IsAt L n i → is_one_too_many L n ≡ false
+pub old_is_none_too_many : (L : List (ℕ × SyncParts)) (n i : ℕ) → IsLinkAt L n i → is_one_too_many L n ≡ false
 old_is_none_too_many L n i a = let h = at_has L n i a in rw h refl
 
 pub new_is_one_too_many : (L : List (ℕ × SyncParts)) (n : ℕ) → has_link L n ≡ false → nat_le MAX_LINKS (length L) ≡ is_one_too_many L n

@@ -2,12 +2,11 @@ pub mod Common
 pub mod PeerError
 pub mod Appending
 pub mod Links
-pub mod PeerData
+pub mod PeerState
 pub mod Actors
 pub mod Taking
 pub mod Sent
 pub mod PeerStep
 pub mod EditingAt
-pub mod Calls
 pub mod Opening
 pub mod Laws

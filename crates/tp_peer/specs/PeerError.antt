@@ -1,11 +1,11 @@
 -- The numbers of the refusals, and what stands for the refusals of a document, of an exchange and of a journal.
-use Rattle.std.specs.Prelude.{ℕ, Bool, true, false}
+use Rattle.std.specs.Prelude.{ℕ, Bool, true, false, Result, Ok, Err}
 use Rattle.tp_peer.specs.Common.{DocError, JournalError, SyncError}
 use Rattle.tp_document.specs.declared.error.DocError.TheVariants as doc
 use Rattle.tp_journal.specs.declared.error.JournalError.TheVariants as journal
 use Rattle.tp_store.specs.declared.error.StoreError.{StoreError}
 use Rattle.tp_store.specs.declared.error.StoreError.TheVariants as store
-use Rattle.tp_sync.specs.declared.error.SyncError.TheVariants as sync
+use Rattle.tp_message.specs.declared.error.SyncError.TheVariants as sync
 use Rattle.tp_peer.specs.declared.error.PeerError.{PeerError}
 use Rattle.tp_peer.specs.declared.error.PeerError.TheVariants.{ActorInUse, JournalFailed, Stopped, TooManyLinks, JournalNotEmpty, Doc, Sync, Store, OutOfMemory}
 
@@ -66,3 +66,8 @@ refusal_of_bytes store.NoHeader = Store store.NoHeader
 abbrev pub is_failed : PeerError → Bool
 is_failed JournalFailed = true
 is_failed _ = false
+
+-- the outcome of a call stops the peer
+abbrev pub stops : {T : Type 0} → Result T PeerError → Bool
+stops (Ok x) = false
+stops (Err e) = is_failed e

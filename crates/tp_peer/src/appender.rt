@@ -1,8 +1,7 @@
 //! The journal as what keeps each change before it enters.
 
-ghost use Rattle.std.specs.Prelude.{◌≡◌, OnOk, OnErr, IfErr, IsOkUnless, length};
-ghost use Rattle.tp_journal.specs.Journal.{fallible, infallible, no_device, with_fuse};
-ghost use Rattle.tp_peer.specs.Appending.{AppendsRecord, IsKept, RefusesRecord, StaysUnsettled, journal_state, reason_of};
+ghost use Rattle.std.specs.Prelude.{◌≡◌, OnOk, OnErr, IfErr, IsOkUnless};
+ghost use Rattle.tp_peer.specs.Appending.{AppendsRecord, IsDurable, RefusesRecord, StaysUnsettled, journal_state, keep_error_of};
 ghost use Rattle.tp_peer.specs.declared.error.PeerError.TheVariants.{JournalFailed};
 
 use crate::error::PeerError;
@@ -11,7 +10,7 @@ use std::marker::Model;
 use std::mem;
 use tp_change::Change;
 use tp_document::{KeepError, Keeper};
-use tp_journal::{FuseJournal, Journal, JournalError, MemJournal, put_record};
+use tp_journal::{Journal, JournalError, put_record};
 
 /// A journal to which the record of each change is appended, from a buffer that is used again: it stays as large as the
 /// largest record was.
@@ -19,8 +18,8 @@ use tp_journal::{FuseJournal, Journal, JournalError, MemJournal, put_record};
 /// Contracts see the journal's content and its device.
 #[derive(Drop)]
 pub(crate) struct Appender<J: Journal> {
-    journal: J,
-    record: Vec<u8>,
+    pub(crate) journal: J,
+    buffer: Vec<u8>,
 }
 
 impl<J: Journal> Model for Appender<J> {
@@ -33,7 +32,7 @@ impl<J: Journal> Model for Appender<J> {
 
 // Why a change wasn't kept, where its append was refused.
 fn reason(error: JournalError) -> KeepError
-    ensures { result ≡ reason_of error }
+    ensures { result ≡ keep_error_of error }
 {
     match error {
         JournalError::Io => KeepError::NotKept,
@@ -78,14 +77,14 @@ impl<J: Journal> Appender<J> {
     {
         Appender {
             journal,
-            record: Vec::new(alloc),
+            buffer: Vec::new(alloc),
         }
     }
 
     /// Settles the journal.
     pub(crate) fn settle(&mut self) -> Result<(), PeerError>
         ensures ok { OnOk result (self.new ≡ self.old) }
-        ensures settled { OnOk result (IsKept J.content J.device J.is_settled self.new) }
+        ensures settled { OnOk result (IsDurable J.content J.device J.is_settled self.new) }
         ensures only { IsOkUnless result JournalFailed }
         ensures err { OnErr result (StaysUnsettled self.old self.new) }
     {
@@ -98,7 +97,7 @@ impl<J: Journal> Appender<J> {
     /// Appends the record of the change to the journal, and settles it.
     pub(crate) fn keep_settled(&mut self, change: &Change) -> Result<(), KeepError>
         ensures ok { OnOk result (AppendsRecord self.old change.now self.new) }
-        ensures settled { OnOk result (IsKept J.content J.device J.is_settled self.new) }
+        ensures settled { OnOk result (IsDurable J.content J.device J.is_settled self.new) }
         ensures err { IfErr result (λ e. RefusesRecord self.old change.now e self.new) }
     {
         match self.keep(change) {
@@ -109,53 +108,6 @@ impl<J: Journal> Appender<J> {
             Err(error) => Err(error),
         }
     }
-
-    /// The journal. No memory.
-    pub(crate) fn into_journal(self) -> J
-        ensures content { J.content result ≡ self.content }
-        ensures device { J.device result ≡ self.device }
-    {
-        self.journal
-    }
-}
-
-impl Appender<MemJournal> {
-    /// A journal in memory has no device that could fail.
-    pub(crate) fn never_fails(&self)
-        ensures { self.now.device ≡ no_device }
-    {
-        let _journal = &self.journal;
-    }
-}
-
-impl Appender<FuseJournal> {
-    /// Lets the next append fail, as [`FuseJournal::arm`] does.
-    pub(crate) fn arm(&mut self, kept: u64)
-        ensures { self.new ≡ record self.old { device = with_fuse kept self.old.device } }
-    {
-        self.journal.arm(kept);
-    }
-
-    /// Lets the next cut fail.
-    pub(crate) fn arm_cut(&mut self)
-        ensures { self.new ≡ record self.old { device = fallible self.old.device } }
-    {
-        self.journal.arm_cut();
-    }
-
-    /// Lets neither fail.
-    pub(crate) fn disarm(&mut self)
-        ensures { self.new ≡ record self.old { device = infallible self.old.device } }
-    {
-        self.journal.disarm();
-    }
-
-    /// How many bytes the journal has.
-    pub(crate) fn len(&self) -> u64
-        ensures { result ≡ length self.now.content }
-    {
-        self.journal.len()
-    }
 }
 
 impl<J: Journal> Keeper for Appender<J> {
@@ -164,6 +116,6 @@ impl<J: Journal> Keeper for Appender<J> {
     ghost refuses = { RefusesRecord };
 
     fn keep(&mut self, change: &Change) -> Result<(), KeepError> {
-        append(&mut self.journal, &mut self.record, change)
+        append(&mut self.journal, &mut self.buffer, change)
     }
 }

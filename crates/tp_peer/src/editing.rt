@@ -3,14 +3,14 @@
 ghost use Rattle.std.specs.Prelude.{◌≡◌, ℕ, List, ◌++◌, ◌∷◌, [], false, None, OnOk, OnErr, IfOk, IfErr, IfSome};
 ghost use Rattle.tp_peer.specs.Common.{chars, hash_of, cause, SyncParts};
 ghost use Rattle.tp_document.specs.Editing.{DoesSplices, asking};
-ghost use Rattle.tp_peer.specs.Appending.{AppendsRecord, IsKept, RefusesRecord};
-ghost use Rattle.tp_peer.specs.PeerData.{peer_data};
+ghost use Rattle.tp_peer.specs.Appending.{AppendsRecord, IsDurable, RefusesRecord};
+ghost use Rattle.tp_peer.specs.PeerState.{peer_state};
 ghost use Rattle.tp_peer.specs.PeerError.{is_failed};
 ghost use Rattle.tp_peer.specs.Taking.{journal_of};
-ghost use Rattle.tp_peer.specs.PeerStep.{PeerStep, Edit, Edits, Made, RefusesEdit, replied};
+ghost use Rattle.tp_peer.specs.PeerStep.{PeerStep, Edit, Edits, Made, RefusesEdit, reply_of_result};
 
 use crate::appender::Appender;
-use crate::error::PeerError;
+use crate::error::{PeerError, stops};
 use crate::peer::Peer;
 use crate::sequence::PeerSequence;
 use tp_change::Change;
@@ -30,7 +30,7 @@ pub(crate) fn append_and_enter<J: Journal>(
     ensures id { document.new.id ≡ document.old.id }
     ensures waiting { document.new.waiting ≡ document.old.waiting }
     ensures kept { OnOk result (AppendsRecord appender.old change appender.new) }
-    ensures settled { OnOk result (IsKept J.content J.device J.is_settled appender.new) }
+    ensures settled { OnOk result (IsDurable J.content J.device J.is_settled appender.new) }
     ensures hash { IfOk result (λ h. h ≡ hash_of change) }
     ensures applied { OnOk result (document.new.applied ≡ document.old.applied ++ change ∷ []) }
     ensures err { IfErr result (λ e. RefusesRecord appender.old change e appender.new) }
@@ -49,8 +49,8 @@ pub(crate) fn append_and_enter<J: Journal>(
     }
 }
 
-/// Edits on the parts of a running peer, which stops where the device failed, once the change was appended to the journal.
-pub(crate) fn edit_on<J: Journal>(
+// Edits on the parts of a running peer, which stops where the device failed, once the change was appended to the journal.
+fn edit_on<J: Journal>(
     actor: Actor,
     document: &mut Document<PeerSequence>,
     appender: &mut Appender<J>,
@@ -59,15 +59,15 @@ pub(crate) fn edit_on<J: Journal>(
     message: &str,
 ) -> Result<Option<Hash>, PeerError>
     ensures settled { IfOk result (λ made. IfSome made
-        (λ _. IsKept J.content J.device J.is_settled appender.new)) }
+        (λ _. IsDurable J.content J.device J.is_settled appender.new)) }
     ensures ok { (links : List (ℕ × SyncParts)) → IfOk result
-        (λ made. Edits (peer_data actor document.old links appender.old false)
+        (λ made. Edits (peer_state actor document.old links appender.old false)
         (asking actor splices.now time (chars message.now)) made
-        (peer_data actor document.new links appender.new false)) }
+        (peer_state actor document.new links appender.new false)) }
     ensures err { (links : List (ℕ × SyncParts)) → IfErr result
-        (λ e. RefusesEdit (peer_data actor document.old links appender.old false)
+        (λ e. RefusesEdit (peer_state actor document.old links appender.old false)
         (asking actor splices.now time (chars message.now)) e
-        (peer_data actor document.new links appender.new (is_failed e))) }
+        (peer_state actor document.new links appender.new (is_failed e))) }
 {
     match document.make_edit(actor, splices, time, message) {
         Ok(Some(change)) => match append_and_enter(document, appender, change) {
@@ -96,28 +96,24 @@ impl<J: Journal> Peer<J> {
         message: &str,
     ) -> Result<Option<Hash>, PeerError>
         ensures step { PeerStep self.old (Edit splices.now time (chars message.now))
-            (replied Made result) self.new }
+            (reply_of_result Made result) self.new }
         ensures settled { IfOk result (λ made. IfSome made
-            (λ _. IsKept J.content J.device J.is_settled (journal_of self.new))) }
+            (λ _. IsDurable J.content J.device J.is_settled (journal_of self.new))) }
         ensures text { IfOk result
             (λ _. DoesSplices self.old.applied self.new.applied splices.now) }
     {
         if self.stopped {
             return Err(PeerError::Stopped);
         }
-        match edit_on(
+        let made = edit_on(
             self.actor,
             &mut self.document,
             &mut self.appender,
             splices,
             time,
             message,
-        ) {
-            Ok(made) => Ok(made),
-            Err(error) => {
-                self.stopped = error.is_failed();
-                Err(error)
-            }
-        }
+        );
+        self.stopped = stops(&made);
+        made
     }
 }

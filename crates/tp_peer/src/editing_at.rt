@@ -1,14 +1,14 @@
 //! Edits of earlier texts, each under an actor of its own.
 
-ghost use Rattle.std.specs.Prelude.{◌≡◌, ◌∷◌, [], ℕ, List, IfErr, IfOk, IfSome, MatchOption, MatchResult, false, true};
-ghost use Rattle.tp_document.specs.Editing.{AsksNothing, DoesSplices, Edited, asking};
-ghost use Rattle.tp_graph.specs.Named.{has_all};
-ghost use Rattle.tp_graph.specs.Past.{past};
+ghost use Rattle.std.specs.Prelude.{◌≡◌, ◌∷◌, [], ℕ, List, IfErr, IfOk, IfSome, MatchOption, MatchResult, false, IsTrue};
+ghost use Rattle.tp_document.specs.Editing.{AsksNothing, DoesSplices, IsAcceptedEdit, asking};
+ghost use Rattle.tp_history.specs.Named.{has_all};
+ghost use Rattle.tp_history.specs.Past.{past};
 ghost use Rattle.tp_peer.specs.Common.{SyncParts, chars};
 ghost use Rattle.tp_opid.specs.declared.actor.Actor.{Actor as ActorOf};
-ghost use Rattle.tp_peer.specs.Appending.{IsKept};
-ghost use Rattle.tp_peer.specs.EditingAt.{EditsAt, EntersMade, IsNotMade, RefusesEditAt, RefusesMade, StepsAt, has_failed};
-ghost use Rattle.tp_peer.specs.PeerData.{peer_data};
+ghost use Rattle.tp_peer.specs.Appending.{IsDurable};
+ghost use Rattle.tp_peer.specs.EditingAt.{EditsAt, EntersMade, RefusesMakingAt, RefusesEditAt, RefusesMade, StepsAt, has_failed};
+ghost use Rattle.tp_peer.specs.PeerState.{peer_state};
 ghost use Rattle.tp_peer.specs.Taking.{journal_of};
 
 use crate::appender::Appender;
@@ -27,8 +27,8 @@ use tp_opid::{Actor, Hash};
 /// Why an edit of an earlier text was refused. It leaves the peer as it was, but for `JournalFailed`, which stops it.
 #[derive(Clone, Copy, Debug, PartialEq, Eq, Error)]
 pub enum EditAtError {
-    /// The change doesn't fit behind all that is applied: its actor made another one since those heads, or the document is
-    /// full.
+    /// The change doesn't fit after all that is applied: its actor made another one since those heads, or the document
+    /// is full.
     #[error("{0}")]
     Unfit(GraphError),
     /// As an edit of the peer's is refused, or a head isn't that of an applied change.
@@ -57,12 +57,12 @@ fn make_edit_at(
     time: u64,
     message: &str,
 ) -> Result<Option<Change>, DocError>
-    ensures known { IfOk result (λ _. has_all document.now.applied heads.now ≡ true) }
+    ensures known { IfOk result (λ _. IsTrue (has_all document.now.applied heads.now)) }
     ensures made { MatchResult result
         (λ made. MatchOption made
         (AsksNothing (past document.now.applied heads.now) (asking actor splices.now time (chars message.now)))
-        (λ c. Edited (past document.now.applied heads.now) (asking actor splices.now time (chars message.now)) c))
-        (λ e. IsNotMade document.now.applied heads.now (asking actor splices.now time (chars message.now)) e) }
+        (λ c. IsAcceptedEdit (past document.now.applied heads.now) (asking actor splices.now time (chars message.now)) c))
+        (λ e. RefusesMakingAt document.now.applied heads.now (asking actor splices.now time (chars message.now)) e) }
 {
     let _changes = document.changes();
     if same_hashes(heads, document.heads()) {
@@ -78,14 +78,14 @@ fn enter_made<J: Journal>(
     appender: &mut Appender<J>,
     change: Change,
 ) -> Result<Hash, EditAtError>
-    ensures settled { IfOk result (λ _. IsKept J.content J.device J.is_settled appender.new) }
+    ensures settled { IfOk result (λ _. IsDurable J.content J.device J.is_settled appender.new) }
     ensures enters { (own : ActorOf) (links : List (ℕ × SyncParts)) → MatchResult result
-        (λ h. EntersMade (peer_data own document.old links appender.old false) change h
-        (peer_data own document.new links appender.new false))
-        (λ e. RefusesMade (peer_data own document.old links appender.old false) change e
-        (peer_data own document.new links appender.new (has_failed e))) }
+        (λ h. EntersMade (peer_state own document.old links appender.old false) change h
+        (peer_state own document.new links appender.new false))
+        (λ e. RefusesMade (peer_state own document.old links appender.old false) change e
+        (peer_state own document.new links appender.new (has_failed e))) }
 {
-    match document.check(&change) {
+    match document.graph().check(&change) {
         Ok(()) => match append_and_enter(document, appender, change) {
             Ok(hash) => Ok(hash),
             Err(KeepError::OutOfMemory) => Err(EditAtError::Peer(PeerError::OutOfMemory)),
@@ -107,15 +107,15 @@ fn edit_at_on<J: Journal>(
     message: &str,
 ) -> Result<Option<Hash>, EditAtError>
     ensures settled { IfOk result (λ made. IfSome made
-        (λ _. IsKept J.content J.device J.is_settled appender.new)) }
+        (λ _. IsDurable J.content J.device J.is_settled appender.new)) }
     ensures ok { (own : ActorOf) (links : List (ℕ × SyncParts)) → IfOk result
-        (λ made. EditsAt (peer_data own document.old links appender.old false) heads.now
+        (λ made. EditsAt (peer_state own document.old links appender.old false) heads.now
         (asking actor splices.now time (chars message.now)) made
-        (peer_data own document.new links appender.new false)) }
+        (peer_state own document.new links appender.new false)) }
     ensures err { (own : ActorOf) (links : List (ℕ × SyncParts)) → IfErr result
-        (λ e. RefusesEditAt (peer_data own document.old links appender.old false) heads.now
+        (λ e. RefusesEditAt (peer_state own document.old links appender.old false) heads.now
         (asking actor splices.now time (chars message.now)) e
-        (peer_data own document.new links appender.new (has_failed e))) }
+        (peer_state own document.new links appender.new (has_failed e))) }
 {
     match make_edit_at(document, heads, actor, splices, time, message) {
         Ok(Some(change)) => match enter_made(document, appender, change) {
@@ -130,15 +130,15 @@ fn edit_at_on<J: Journal>(
 impl<J: Journal> Peer<J> {
     /// Edits the text at some hashes, as Automerge's `transaction_at` does, under an actor that need not be the peer's: the
     /// change is the one that [`Document::edit`] makes of their past alone. It is appended to the journal, the journal is
-    /// settled, and it enters behind all that is applied; what was applied beside it is merged with it so. Answers the
+    /// settled, and it enters after all that is applied; what was applied beside it is merged with it so. Answers the
     /// change's hash; `None` where the splices are in range and change nothing. At the hash the text is that at the hashes with
     /// each splice done in turn. The hashes may come in any order and more than once.
     ///
     /// It is refused as `Stopped`; then as `UnknownHead` of the document where a hash isn't that of an applied change; then as
-    /// [`Document::make_edit`] is on their past; then as `Unfit` where the change doesn't fit behind all that is applied, which
-    /// is so where its actor made a change that isn't in that past; as `JournalFailed` where the device failed while the
-    /// record was appended or the journal settled: the change didn't enter, and the peer has stopped. Every other refusal,
-    /// `OutOfMemory` among them, leaves the peer as it was.
+    /// [`Document::make_edit`] is on their past; then as `Unfit` where the change doesn't fit after all that is
+    /// applied, which is so where its actor made a change that isn't in that past; as `JournalFailed` where the device
+    /// failed while the record was appended or the journal settled: the change didn't enter, and the peer has stopped.
+    /// Every other refusal, `OutOfMemory` among them, leaves the peer as it was.
     ///
     /// Where the hashes are [`heads`](Peer::heads), as these give them, it costs what [`edit`](Peer::edit) does. Otherwise their
     /// past is copied, change by change.
@@ -152,7 +152,7 @@ impl<J: Journal> Peer<J> {
     ) -> Result<Option<Hash>, EditAtError>
         ensures step { StepsAt self.old heads.now (asking actor splices.now time (chars message.now)) result self.new }
         ensures settled { IfOk result (λ made. IfSome made
-            (λ _. IsKept J.content J.device J.is_settled (journal_of self.new))) }
+            (λ _. IsDurable J.content J.device J.is_settled (journal_of self.new))) }
         ensures text { IfOk result (λ made. IfSome made (λ h. DoesSplices (past self.old.applied heads.now)
             (past self.new.applied (h ∷ [])) splices.now)) }
     {

@@ -70,6 +70,16 @@ impl PeerError {
     }
 }
 
+/// Whether the outcome of a call stops the peer: the device of the journal failed.
+pub(crate) fn stops<T>(outcome: &Result<T, PeerError>) -> bool
+    ensures { result ≡ refusal.stops outcome.now }
+{
+    match outcome {
+        Ok(_) => false,
+        Err(error) => error.is_failed(),
+    }
+}
+
 impl From<DocError> for PeerError {
     ghost from_gives = { λ e r. r ≡ refusal_of_document e };
 

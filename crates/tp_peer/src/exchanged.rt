@@ -16,7 +16,7 @@ pub struct Received {
 pub struct Outgoing {
     /// Its bytes, as docs/FORMATS.md lays them out.
     pub bytes: Vec<u8>,
-    /// Whether something is due, and the message takes it from the first change again, since nothing that is due stands
-    /// behind what the messages before took.
+    /// Whether something is due, and the message takes it from the first change again, since nothing that is due is
+    /// after what the messages before took.
     pub again: bool,
 }

@@ -1,8 +1,8 @@
-//! Peers on a journal that fails when it is told to.
+//! Peers on a journal that fails where it is set to.
 
 ghost use Rattle.std.specs.Prelude.{◌≡◌, length};
 ghost use Rattle.tp_journal.specs.Journal.{fallible};
-ghost use Rattle.tp_peer.specs.PeerData.{arming, disarming};
+ghost use Rattle.tp_peer.specs.PeerState.{arming, disarming};
 
 use crate::peer::Peer;
 use tp_journal::FuseJournal;
@@ -12,27 +12,27 @@ impl Peer<FuseJournal> {
     pub fn arm(&mut self, kept: u64)
         ensures { self.new ≡ arming self.old kept }
     {
-        self.appender.arm(kept);
+        self.appender.journal.arm(kept);
     }
 
     /// Lets the next cut of the journal fail, as [`FuseJournal::arm_cut`] does. Nothing else changes.
     pub fn arm_cut(&mut self)
         ensures { self.new ≡ record self.old { device = fallible self.old.device } }
     {
-        self.appender.arm_cut();
+        self.appender.journal.arm_cut();
     }
 
     /// Lets neither fail. Nothing else changes.
     pub fn disarm(&mut self)
         ensures { self.new ≡ disarming self.old }
     {
-        self.appender.disarm();
+        self.appender.journal.disarm();
     }
 
     /// How many bytes the journal has, also that of a peer that has stopped.
     pub fn journal_len(&self) -> u64
         ensures { result ≡ length self.now.journal }
     {
-        self.appender.len()
+        self.appender.journal.len()
     }
 }

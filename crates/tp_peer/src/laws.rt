@@ -1,17 +1,17 @@
 //! Laws of peers: public functions whose contract is the law and whose body is empty.
 
-ghost use Rattle.std.specs.Prelude.{◌≡◌, ℕ, List, ◌++◌, true, false, length};
+ghost use Rattle.std.specs.Prelude.{◌≡◌, ℕ, List, ◌++◌, false, length, IsTrue};
 ghost use Rattle.tp_list.specs.Members.{In};
 ghost use Rattle.tp_peer.specs.Common.{ChangeParts, Splice, Recovers, Done, Report, Stopped};
-ghost use Rattle.tp_graph.specs.Named.{HashesApart};
+ghost use Rattle.tp_history.specs.Named.{HashesApart};
 ghost use Rattle.tp_journal.specs.Journal.{no_device};
-ghost use Rattle.tp_graph.specs.Sound.{Sound};
+ghost use Rattle.tp_history.specs.Sound.{Sound};
 ghost use Rattle.tp_peer.specs.declared.error.PeerError.{PeerError as Refusal};
 ghost use Rattle.tp_peer.specs.declared.error.PeerError.TheVariants.{JournalFailed, OutOfMemory};
-ghost use Rattle.tp_peer.specs.PeerData.{PeerData, IsPeer};
+ghost use Rattle.tp_peer.specs.PeerState.{PeerState, IsPeer};
 ghost use Rattle.tp_peer.specs.PeerStep.{Call, Edit, PeerStep, Refused, Reply};
 ghost use Rattle.tp_receive.specs.declared.error.ReceiveError.TheVariants as receive;
-ghost use Rattle.tp_peer.specs.Taking.{Takes};
+ghost use Rattle.tp_peer.specs.Taking.{ReceivesAndAppends};
 ghost use Rattle.tp_peer.specs.Laws.{DeviceFails, Keeps, IsComplete, IsPartial, IsTornAt, RecoversTorn};
 
 use crate::peer::Peer;
@@ -23,55 +23,55 @@ use tp_journal::MemJournal;
 /// 1,024 wait. Each link stays but the one that the call is on. The device failed exactly where `JournalFailed` is
 /// answered: the peer has stopped then.
 pub fn a_step_keeps()
-    ensures { (p : PeerData) (call : Call) (reply : Reply) (p' : PeerData)
+    ensures { (p : PeerState) (call : Call) (reply : Reply) (p' : PeerState)
         → PeerStep p call reply p' → Keeps p call reply p' }
 {}
 
 /// What every peer keeps is kept by each step: its changes are a history, and its journal is theirs, with a beginning
-/// of one record behind it where the peer has stopped; at most 1,024 changes wait, and there are at most 1,024 links.
+/// of one record after it where the peer has stopped; at most 1,024 changes wait, and there are at most 1,024 links.
 pub fn a_step_leaves_a_peer()
-    ensures { (p : PeerData) (call : Call) (reply : Reply) (p' : PeerData)
+    ensures { (p : PeerState) (call : Call) (reply : Reply) (p' : PeerState)
         → IsPeer p → PeerStep p call reply p' → IsPeer p' }
 {}
 
 /// A refused call changes nothing, but for want of memory and for a device that failed.
 pub fn a_refusal_changes_nothing()
-    ensures { (p : PeerData) (call : Call) (e : Refusal) (p' : PeerData)
+    ensures { (p : PeerState) (call : Call) (e : Refusal) (p' : PeerState)
         → PeerStep p call (Refused e) p'
         → (e ≡ OutOfMemory → ⊥) → (e ≡ JournalFailed → ⊥) → p' ≡ p }
 {}
 
 /// The change that an edit enters is the peer's actor's.
 pub fn an_edit_bears_the_actor()
-    ensures { (p : PeerData) (splices : List Splice) (time : ℕ) (message : List ℕ)
-        (reply : Reply) (p' : PeerData) (new : List ChangeParts)
+    ensures { (p : PeerState) (splices : List Splice) (time : ℕ) (message : List ℕ)
+        (reply : Reply) (p' : PeerState) (new : List ChangeParts)
         → PeerStep p (Edit splices time message) reply p' → p'.applied ≡ p.applied ++ new
         → (c : ChangeParts) → In c new → c.actor ≡ p.actor }
 {}
 
 /// Where no two different changes of what waited and came have one hash, what received all of them is a result.
 pub fn all_is_complete()
-    ensures { (p : PeerData) (K : List ChangeParts) (r : Report) (p' : PeerData) → Sound p.applied
-        → HashesApart (p.waiting ++ K) → Takes p K (Done r) p' → IsComplete p K r p' }
+    ensures { (p : PeerState) (K : List ChangeParts) (r : Report) (p' : PeerState) → Sound p.applied
+        → HashesApart (p.waiting ++ K) → ReceivesAndAppends p K (Done r) p' → IsComplete p K r p' }
 {}
 
-/// Where memory was refused, what is applied stands between what was there and a result.
+/// Where memory was refused, what is applied is between what was there and a result.
 pub fn a_part_is_between()
-    ensures { (p : PeerData) (K : List ChangeParts) (p' : PeerData) → Sound p.applied
-        → Takes p K (Stopped receive.OutOfMemory) p' → IsPartial p K p' }
+    ensures { (p : PeerState) (K : List ChangeParts) (p' : PeerState) → Sound p.applied
+        → ReceivesAndAppends p K (Stopped receive.OutOfMemory) p' → IsPartial p K p' }
 {}
 
-/// Where the device failed, what is applied, with the change that was being appended, stands between, and the journal
-/// has a beginning of just that change's record behind those of what is applied.
+/// Where the device failed, what is applied, with the change that was being appended, is between what was there and a
+/// result, and the journal has a beginning of just that change's record after those of what is applied.
 pub fn a_stop_is_between()
-    ensures { (p : PeerData) (K : List ChangeParts) (p' : PeerData) → Sound p.applied
-        → Takes p K (Stopped receive.NotKept) p' → IsTornAt p K p' }
+    ensures { (p : PeerState) (K : List ChangeParts) (p' : PeerState) → Sound p.applied
+        → ReceivesAndAppends p K (Stopped receive.NotKept) p' → IsTornAt p K p' }
 {}
 
 /// A call answers `JournalFailed` only at a peer whose device can fail, or whose next append is armed to, and counts one
 /// failure more.
 pub fn a_device_fails_where_it_can()
-    ensures { (p : PeerData) (call : Call) (p' : PeerData)
+    ensures { (p : PeerState) (call : Call) (p' : PeerState)
         → PeerStep p call (Refused JournalFailed) p' → DeviceFails p.device p'.device }
 {}
 
@@ -80,13 +80,13 @@ pub fn a_device_fails_where_it_can()
 pub fn a_peer_in_memory_never_fails(peer: &Peer<MemJournal>)
     ensures { peer.now.device ≡ no_device }
 {
-    peer.appender.never_fails();
+    let _journal = &peer.appender.journal;
 }
 
 /// The journal of a running peer recovers to its changes, whole. That of one that has stopped has a beginning of one
 /// change's record after them, and recovers to its changes, and to that one too where the beginning is the whole record.
 pub fn a_peer_recovers()
-    ensures running { (p : PeerData) → IsPeer p → p.stopped ≡ false
+    ensures running { (p : PeerState) → IsPeer p → p.stopped ≡ false
         → Recovers p.journal p.id p.applied (length p.journal) }
-    ensures stopped { (p : PeerData) → IsPeer p → p.stopped ≡ true → RecoversTorn p }
+    ensures stopped { (p : PeerState) → IsPeer p → IsTrue p.stopped → RecoversTorn p }
 {}

@@ -6,8 +6,6 @@
 
 mod actors;
 mod appender;
-mod call;
-mod calling;
 mod editing;
 mod editing_at;
 mod error;
@@ -22,7 +20,6 @@ mod sequence;
 mod syncing;
 
 pub use actors::fresh_actor;
-pub use call::{Call, Reply, Request};
 pub use editing_at::EditAtError;
 pub use error::PeerError;
 pub use exchanged::{Outgoing, Received};

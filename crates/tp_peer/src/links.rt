@@ -4,7 +4,7 @@ ghost use Rattle.std.specs.Prelude.{◌≡◌, ◌<◌, ◌++◌, ◌∷◌, [],
 ghost use Rattle.std.specs.List.{remove};
 ghost use Rattle.std.specs.Vec.{vec_len, vec_capacity};
 ghost use Rattle.tp_peer.specs.declared.error.PeerError.TheVariants.{OutOfMemory};
-ghost use Rattle.tp_peer.specs.Links.{has_link, is_one_too_many, known_of, with_link, without_link, IsAt};
+ghost use Rattle.tp_peer.specs.Links.{has_link, is_one_too_many, known_of, with_link, without_link, IsLinkAt};
 
 use crate::error::PeerError;
 use std::alloc::Global;
@@ -41,7 +41,7 @@ impl Model for Links {
 // The index of the link with the number, if there is one. One pass.
 fn index_of(links: &[(u64, SyncState)], number: u64) -> Option<usize>
     ensures { MatchOption result (has_link links.now number ≡ false)
-        (λ i. IsAt links.now number i) }
+        (λ i. IsLinkAt links.now number i) }
 {
     for i in 0..links.len() {
         if links[i].0 == number {
@@ -53,7 +53,7 @@ fn index_of(links: &[(u64, SyncState)], number: u64) -> Option<usize>
 
 // Puts what is known of the link at the index.
 fn put(links: &mut Vec<(u64, SyncState)>, number: u64, index: usize, state: SyncState)
-    requires { IsAt links.old.items number index }
+    requires { IsLinkAt links.old.items number index }
     ensures { links.new.items ≡ with_link links.old.items number state }
 {
     links[index].1 = state;
@@ -99,7 +99,7 @@ impl Links {
     }
 
     /// A copy of what is known on the link, which need not be there. The only refusal is `OutOfMemory`.
-    pub(crate) fn known(&self, alloc: Global, link: Link) -> Result<SyncState, PeerError>
+    pub(crate) fn state_on(&self, alloc: Global, link: Link) -> Result<SyncState, PeerError>
         ensures known { IfOk result (λ s. s ≡ known_of self.now.known link.0) }
         ensures err { IsOkUnless result OutOfMemory }
     {

@@ -1,6 +1,6 @@
 //! Merges of peers.
 
-ghost use Rattle.tp_peer.specs.PeerStep.{PeerStep, Merge, Merged, replied};
+ghost use Rattle.tp_peer.specs.PeerStep.{PeerStep, Merge, Merged, reply_of_result};
 ghost use Rattle.tp_peer.specs.Taking.{report_of};
 
 use crate::error::PeerError;
@@ -20,7 +20,7 @@ impl<J: Journal> Peer<J> {
     /// One look-up for each of the other's changes, and one append for each that enters.
     pub fn merge<K: Journal>(&mut self, other: &Peer<K>) -> Result<Applied, PeerError>
         ensures { PeerStep self.old (Merge other.now)
-            (replied (λ a. Merged (report_of a)) result) self.new }
+            (reply_of_result (λ a. Merged (report_of a)) result) self.new }
     {
         if self.stopped || other.stopped {
             return Err(PeerError::Stopped);

@@ -2,14 +2,14 @@
 
 ghost use Rattle.std.specs.Prelude.{◌≡◌, ◌⊎◌, ℕ, List, [], false, MatchBool, OnOk, IfOk, IfErr, IsOkUnless};
 ghost use Rattle.tp_journal.specs.Journal.{without_fuse};
-ghost use Rattle.tp_journal.specs.Layout.{journal as journal_bytes};
-ghost use Rattle.tp_journal.specs.Recovery.{Recovers};
-ghost use Rattle.tp_journal.specs.Refusals.{IsRefusal};
+ghost use Rattle.tp_recovery.specs.Layout.{journal as journal_bytes};
+ghost use Rattle.tp_recovery.specs.Recovery.{Recovers};
+ghost use Rattle.tp_recovery.specs.Refusals.{IsJournalFault};
 ghost use Rattle.tp_store.specs.declared.error.StoreError.TheVariants.{OutOfMemory as Lack};
 ghost use Rattle.tp_peer.specs.Actors.{has_actor as is_used};
 ghost use Rattle.tp_peer.specs.Appending.{journal_state};
-ghost use Rattle.tp_peer.specs.Opening.{IsUnused, NotBegun, NotCopied, Forks, NotForked, Reopens, NotReopened};
-ghost use Rattle.tp_peer.specs.PeerData.{opened};
+ghost use Rattle.tp_peer.specs.Opening.{IsUnused, RefusesNewJournal, RefusesCopy, Forks, RefusesFork, Reopens, RefusesReopening};
+ghost use Rattle.tp_peer.specs.PeerState.{opened_peer};
 
 use crate::actors::has_actor;
 use crate::error::PeerError;
@@ -58,16 +58,14 @@ fn check_unused<J: Journal>(alloc: Global, journal: &mut J) -> Result<(), PeerEr
         (journal_state (J.content journal.new) (J.device journal.new)
         ≡ journal_state (J.content journal.old) (J.device journal.old)) }
     ensures err { (bytes : List ℕ) → IfErr result
-        (λ e. NotBegun bytes (journal_state (J.content journal.old) (J.device journal.old)) e
+        (λ e. RefusesNewJournal bytes (journal_state (J.content journal.old) (J.device journal.old)) e
         (journal_state (J.content journal.new) (J.device journal.new))) }
 {
-    match journal.read_all() {
-        Ok(bytes) => match is_unused(alloc, &bytes) {
-            Ok(true) => Ok(()),
-            Ok(false) => Err(PeerError::JournalNotEmpty),
-            Err(error) => Err(error),
-        },
-        Err(error) => Err(PeerError::from(error)),
+    let bytes = journal.read_all()?;
+    if is_unused(alloc, &bytes)? {
+        Ok(())
+    } else {
+        Err(PeerError::JournalNotEmpty)
     }
 }
 
@@ -77,16 +75,11 @@ fn begin<J: Journal>(journal: &mut J, bytes: &[u8]) -> Result<(), PeerError>
     ensures ok { OnOk result (J.content journal.new ≡ bytes.now) }
     ensures quiet { OnOk result (J.device journal.new ≡ without_fuse (J.device journal.old)) }
     ensures err { IfErr result
-        (λ e. NotBegun bytes.now (journal_state (J.content journal.old) (J.device journal.old)) e
+        (λ e. RefusesNewJournal bytes.now (journal_state (J.content journal.old) (J.device journal.old)) e
         (journal_state (J.content journal.new) (J.device journal.new))) }
 {
-    match journal.cut(0) {
-        Ok(()) => match journal.append(bytes) {
-            Ok(()) => Ok(()),
-            Err(error) => Err(PeerError::from(error)),
-        },
-        Err(error) => Err(PeerError::from(error)),
-    }
+    journal.cut(0)?;
+    Ok(journal.append(bytes)?)
 }
 
 // How many bytes the records of the changes have, or the greatest number there is. Room alone depends on it.
@@ -128,14 +121,11 @@ fn bytes_for<J: Journal>(
         (journal_state (J.content journal.new) (J.device journal.new)
         ≡ journal_state (J.content journal.old) (J.device journal.old)) }
     ensures err { IfErr result
-        (λ e. NotCopied document.now.id document.now.applied actor.now
+        (λ e. RefusesCopy document.now.id document.now.applied actor.now
         (journal_state (J.content journal.old) (J.device journal.old)) e
         (journal_state (J.content journal.new) (J.device journal.new))) }
 {
-    match check_unused(alloc, journal) {
-        Ok(()) => {}
-        Err(error) => return Err(error),
-    }
+    check_unused(alloc, journal)?;
     if has_actor(document.changes(), actor) {
         return Err(PeerError::ActorInUse);
     }
@@ -162,14 +152,11 @@ fn copy_to<J: Journal>(
         (J.content journal.new ≡ journal_bytes document.now.id document.now.applied) }
     ensures quiet { OnOk result (J.device journal.new ≡ without_fuse (J.device journal.old)) }
     ensures err { IfErr result
-        (λ e. NotCopied document.now.id document.now.applied actor.now
+        (λ e. RefusesCopy document.now.id document.now.applied actor.now
         (journal_state (J.content journal.old) (J.device journal.old)) e
         (journal_state (J.content journal.new) (J.device journal.new))) }
 {
-    let bytes = match bytes_for(alloc, document, journal, actor) {
-        Ok(bytes) => bytes,
-        Err(error) => return Err(error),
-    };
+    let bytes = bytes_for(alloc, document, journal, actor)?;
     match document.fork() {
         Ok(copy) => match begin(journal, &bytes) {
             Ok(()) => Ok(copy),
@@ -193,12 +180,12 @@ fn begin_empty<J: Journal>(
         Recovers (J.content journal.old) r.document.id r.document.applied r.keep
         × (r.document.waiting ≡ [])) }
     requires refused { IfErr recovered
-        (λ e. (e ≡ Lack) ⊎ IsRefusal (J.content journal.old) e) }
+        (λ e. (e ≡ Lack) ⊎ IsJournalFault (J.content journal.old) e) }
     ensures unused { OnOk result (IsUnused (J.content journal.old)) }
     ensures begun { OnOk result (J.content journal.new ≡ journal_bytes id []) }
     ensures quiet { OnOk result (J.device journal.new ≡ without_fuse (J.device journal.old)) }
     ensures err { IfErr result
-        (λ e. NotBegun (journal_bytes id [])
+        (λ e. RefusesNewJournal (journal_bytes id [])
         (journal_state (J.content journal.old) (J.device journal.old)) e
         (journal_state (J.content journal.new) (J.device journal.new))) }
 {
@@ -230,16 +217,13 @@ fn cut_to<J: Journal>(
         ≡ journal_bytes recovered.now.document.id recovered.now.document.applied) }
     ensures quiet { OnOk result (J.device journal.new ≡ J.device journal.old) }
     ensures err { IfErr result
-        (λ e. NotReopened (journal_state (J.content journal.old) (J.device journal.old)) actor.now
+        (λ e. RefusesReopening (journal_state (J.content journal.old) (J.device journal.old)) actor.now
         e (journal_state (J.content journal.new) (J.device journal.new))) }
 {
     if has_actor(recovered.document.changes(), actor) {
         return Err(PeerError::ActorInUse);
     }
-    match journal.cut(recovered.keep) {
-        Ok(()) => Ok(()),
-        Err(error) => Err(PeerError::from(error)),
-    }
+    Ok(journal.cut(recovered.keep)?)
 }
 
 // What the journal's content recovered to, for a peer under the actor: its document. The journal is cut to what is kept of
@@ -253,7 +237,7 @@ fn cut_for<J: Journal>(
         Recovers (J.content journal.old) r.document.id r.document.applied r.keep
         × (r.document.waiting ≡ [])) }
     requires refused { IfErr recovered
-        (λ e. (e ≡ Lack) ⊎ IsRefusal (J.content journal.old) e) }
+        (λ e. (e ≡ Lack) ⊎ IsJournalFault (J.content journal.old) e) }
     ensures ok { IfOk result
         (λ d. (keep : ℕ) × Recovers (J.content journal.old) d.id d.applied keep) }
     ensures free { IfOk result (λ d. is_used d.applied actor.now ≡ false) }
@@ -261,7 +245,7 @@ fn cut_for<J: Journal>(
     ensures kept { IfOk result (λ d. J.content journal.new ≡ journal_bytes d.id d.applied) }
     ensures quiet { OnOk result (J.device journal.new ≡ J.device journal.old) }
     ensures err { IfErr result
-        (λ e. NotReopened (journal_state (J.content journal.old) (J.device journal.old)) actor.now
+        (λ e. RefusesReopening (journal_state (J.content journal.old) (J.device journal.old)) actor.now
         e (journal_state (J.content journal.new) (J.device journal.new))) }
 {
     match recovered {
@@ -274,29 +258,6 @@ fn cut_for<J: Journal>(
         },
         Err(error) => Err(PeerError::from(error)),
     }
-}
-
-// The document of the journal, for a peer under the actor. The journal is cut to what is kept of it.
-fn recover_for<J: Journal>(
-    alloc: Global,
-    journal: &mut J,
-    actor: &Actor,
-) -> Result<Document<PeerSequence>, PeerError>
-    ensures ok { IfOk result
-        (λ d. (keep : ℕ) × Recovers (J.content journal.old) d.id d.applied keep) }
-    ensures free { IfOk result (λ d. is_used d.applied actor.now ≡ false) }
-    ensures waiting { IfOk result (λ d. d.waiting ≡ []) }
-    ensures kept { IfOk result (λ d. J.content journal.new ≡ journal_bytes d.id d.applied) }
-    ensures quiet { OnOk result (J.device journal.new ≡ J.device journal.old) }
-    ensures err { IfErr result
-        (λ e. NotReopened (journal_state (J.content journal.old) (J.device journal.old)) actor.now
-        e (journal_state (J.content journal.new) (J.device journal.new))) }
-{
-    let bytes = match journal.read_all() {
-        Ok(bytes) => bytes,
-        Err(error) => return Err(PeerError::from(error)),
-    };
-    cut_for(journal, recover(alloc, &bytes), actor)
 }
 
 /// Begins a journal in which no header was written with a document: its header and its records, which are appended at
@@ -317,14 +278,11 @@ pub fn create_journal<J: Journal>(
         (J.content journal.new ≡ journal_bytes document.now.id document.now.applied) }
     ensures quiet { OnOk result (J.device journal.new ≡ without_fuse (J.device journal.old)) }
     ensures err { IfErr result
-        (λ e. NotBegun (journal_bytes document.now.id document.now.applied)
+        (λ e. RefusesNewJournal (journal_bytes document.now.id document.now.applied)
         (journal_state (J.content journal.old) (J.device journal.old)) e
         (journal_state (J.content journal.new) (J.device journal.new))) }
 {
-    match check_unused(alloc, journal) {
-        Ok(()) => {}
-        Err(error) => return Err(error),
-    }
+    check_unused(alloc, journal)?;
     match journal_of(alloc, document) {
         Ok(bytes) => begin(journal, &bytes),
         Err(_) => Err(PeerError::OutOfMemory),
@@ -344,19 +302,20 @@ impl<J: Journal> Peer<J> {
         id: DocId,
         actor: Actor,
     ) -> Result<Peer<J>, Unopened<J>>
-        ensures ok { IfOk result (λ p. p ≡ opened id actor [] (without_fuse (J.device journal))) }
+        ensures ok { IfOk result (λ p. p ≡ opened_peer id actor [] (without_fuse (J.device journal))) }
         ensures unused { OnOk result (IsUnused (J.content journal)) }
         ensures err { IfErr result
-            (λ u. NotBegun (journal_bytes id [])
+            (λ u. RefusesNewJournal (journal_bytes id [])
             (journal_state (J.content journal) (J.device journal))
             u.error (journal_state (J.content u.journal) (J.device u.journal))) }
     {
-        let empty = Document::new(alloc, id);
-        let copied = copy_to(alloc, &empty, &mut journal, &actor);
-        drop(empty);
-        match copied {
-            Ok(document) => Ok(Peer::new(alloc, journal, document, actor)),
-            Err(error) => Err(Unopened { journal, error }),
+        let document = Document::new(alloc, id);
+        match create_journal(alloc, &mut journal, &document) {
+            Ok(()) => Ok(Peer::new(alloc, journal, document, actor)),
+            Err(error) => {
+                drop(document);
+                Err(Unopened { journal, error })
+            }
         }
     }
 
@@ -375,11 +334,11 @@ impl<J: Journal> Peer<J> {
             Recovers (J.content journal) r.document.id r.document.applied r.keep
             × (r.document.waiting ≡ [])) }
         requires refused { IfErr recovered
-            (λ e. (e ≡ Lack) ⊎ IsRefusal (J.content journal) e) }
-        ensures ok { IfOk result (λ p. p ≡ opened id actor [] (without_fuse (J.device journal))) }
+            (λ e. (e ≡ Lack) ⊎ IsJournalFault (J.content journal) e) }
+        ensures ok { IfOk result (λ p. p ≡ opened_peer id actor [] (without_fuse (J.device journal))) }
         ensures unused { OnOk result (IsUnused (J.content journal)) }
         ensures err { IfErr result
-            (λ u. NotBegun (journal_bytes id [])
+            (λ u. RefusesNewJournal (journal_bytes id [])
             (journal_state (J.content journal) (J.device journal))
             u.error (journal_state (J.content u.journal) (J.device u.journal))) }
     {
@@ -392,8 +351,8 @@ impl<J: Journal> Peer<J> {
         }
     }
 
-    /// A peer with the changes that the journal recovers to, edited under the actor; nothing waits. What stands in the
-    /// journal behind its whole records is cut off.
+    /// A peer with the changes that the journal recovers to, edited under the actor; nothing waits. What is in the
+    /// journal after its whole records is cut off.
     ///
     /// It is refused as [`recover`] refuses the bytes; then as `ActorInUse` where a change is the actor's: each peer
     /// that is opened has an actor of its own. `JournalFailed` where the journal's device failed. The only other
@@ -404,12 +363,15 @@ impl<J: Journal> Peer<J> {
         ensures ok { IfOk result
             (λ p. Reopens (journal_state (J.content journal) (J.device journal)) actor p) }
         ensures err { IfErr result
-            (λ u. NotReopened (journal_state (J.content journal) (J.device journal)) actor
+            (λ u. RefusesReopening (journal_state (J.content journal) (J.device journal)) actor
             u.error (journal_state (J.content u.journal) (J.device u.journal))) }
     {
-        match recover_for(alloc, &mut journal, &actor) {
-            Ok(document) => Ok(Peer::new(alloc, journal, document, actor)),
-            Err(error) => Err(Unopened { journal, error }),
+        match journal.read_all() {
+            Ok(bytes) => Peer::open_recovered(alloc, journal, recover(alloc, &bytes), actor),
+            Err(error) => Err(Unopened {
+                journal,
+                error: PeerError::from(error),
+            }),
         }
     }
 
@@ -427,11 +389,11 @@ impl<J: Journal> Peer<J> {
             Recovers (J.content journal) r.document.id r.document.applied r.keep
             × (r.document.waiting ≡ [])) }
         requires refused { IfErr recovered
-            (λ e. (e ≡ Lack) ⊎ IsRefusal (J.content journal) e) }
+            (λ e. (e ≡ Lack) ⊎ IsJournalFault (J.content journal) e) }
         ensures ok { IfOk result
             (λ p. Reopens (journal_state (J.content journal) (J.device journal)) actor p) }
         ensures err { IfErr result
-            (λ u. NotReopened (journal_state (J.content journal) (J.device journal)) actor
+            (λ u. RefusesReopening (journal_state (J.content journal) (J.device journal)) actor
             u.error (journal_state (J.content u.journal) (J.device u.journal))) }
     {
         match cut_for(&mut journal, recovered, &actor) {
@@ -454,7 +416,7 @@ impl<J: Journal> Peer<J> {
         ensures ok { IfOk result
             (λ p. Forks self.now actor (journal_state (K.content journal) (K.device journal)) p) }
         ensures err { IfErr result
-            (λ u. NotForked self.now actor (journal_state (K.content journal) (K.device journal))
+            (λ u. RefusesFork self.now actor (journal_state (K.content journal) (K.device journal))
             u.error (journal_state (K.content u.journal) (K.device u.journal))) }
     {
         if self.stopped {

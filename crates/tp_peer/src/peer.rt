@@ -3,12 +3,11 @@
 ghost use Rattle.std.specs.Prelude.{◌≡◌, [], length};
 ghost use Rattle.std.specs.Str.{chars};
 ghost use Rattle.std.specs.String.{string_bytes};
-ghost use Rattle.tp_peer.specs.PeerData.{IsPeer, HasJournal, opened};
-ghost use Rattle.tp_peer.specs.PeerStep.{PeerStep, Heads, Read, ReadAt, ReadHeads, Text, replied};
-ghost use Rattle.tp_journal.specs.Layout.{journal as journal_bytes};
+ghost use Rattle.tp_peer.specs.PeerState.{IsPeer, HasJournal, opened_peer};
+ghost use Rattle.tp_peer.specs.PeerStep.{PeerStep, Heads, Read, ReadAt, ReadHeads, Text, reply_of_result};
+ghost use Rattle.tp_recovery.specs.Layout.{journal as journal_bytes};
 
 use crate::appender::Appender;
-use crate::calling::{read_at_on, read_on};
 use crate::error::PeerError;
 use crate::links::Links;
 use crate::sequence::PeerSequence;
@@ -26,7 +25,8 @@ use tp_opid::{Actor, DocId, Hash};
 /// [`actor`](Peer::actor), [`is_stopped`](Peer::is_stopped) and [`change_count`](Peer::change_count), and its journal
 /// is opened again under a fresh actor.
 ///
-/// Contracts see `PeerData`, and each call is a `PeerStep`.
+/// Contracts see `PeerState`, and each call is a `PeerStep`.
+#[derive(Drop)]
 pub struct Peer<J: Journal> {
     pub(crate) alloc: Global,
     pub(crate) actor: Actor,
@@ -36,36 +36,23 @@ pub struct Peer<J: Journal> {
     pub(crate) stopped: bool,
 }
 
-impl<J: Journal> Drop for Peer<J> {
-    fn drop(self) {
-        let Peer {
-            alloc: _,
-            actor: _,
-            document: _,
-            links: _,
-            appender: _,
-            stopped: _,
-        } = self;
-    }
-}
-
 impl<J: Journal> Model for Peer<J> {
-    ghost use Rattle.tp_peer.specs.PeerData.{PeerData, IsPeer, peer_data};
+    ghost use Rattle.tp_peer.specs.PeerState.{PeerState, IsPeer, peer_state};
 
-    ghost Value = { PeerData };
+    ghost Value = { PeerState };
 
-    ghost view = { λ p. peer_data p.actor p.document p.links.known p.appender p.stopped };
+    ghost view = { λ p. peer_state p.actor p.document p.links.known p.appender p.stopped };
 
-    ghost invariant = { λ p. IsPeer (peer_data p.actor p.document p.links.known p.appender p.stopped) };
+    ghost invariant = { λ p. IsPeer (peer_state p.actor p.document p.links.known p.appender p.stopped) };
 }
 
 impl<J: Journal> Peer<J> {
-    /// A peer that runs, with no links, on a journal that is the document's, of which nothing waits. Each of its edits is its
-    /// actor's, of which a change may be there already. No memory.
+    /// A peer that runs, with no links, on a journal that is the document's; nothing waits in this. Each of its edits
+    /// is its actor's; a change of that actor may be there already. No memory.
     pub fn new(alloc: Global, journal: J, document: Document<PeerSequence>, actor: Actor) -> Peer<J>
         requires kept { J.content journal ≡ journal_bytes document.id document.applied }
         requires waiting { document.waiting ≡ [] }
-        ensures { result ≡ opened document.id actor document.applied (J.device journal) }
+        ensures { result ≡ opened_peer document.id actor document.applied (J.device journal) }
     {
         let _len = array_len(document.id().0);
         let _changes = document.changes();
@@ -84,12 +71,15 @@ impl<J: Journal> Peer<J> {
     /// One pass over the elements, deleted ones among them.
     pub fn read(&self) -> Result<String, PeerError>
         ensures { PeerStep self.now Read
-            (replied (λ t. Text (chars (string_bytes t))) result) self.now }
+            (reply_of_result (λ t. Text (chars (string_bytes t))) result) self.now }
     {
         if self.stopped {
             return Err(PeerError::Stopped);
         }
-        read_on(&self.document).into_text()
+        match self.document.text() {
+            Ok(text) => Ok(text),
+            Err(_) => Err(PeerError::OutOfMemory),
+        }
     }
 
     /// The text of the past of the hashes, which may come in any order and more than once; no hash gives the empty
@@ -99,18 +89,21 @@ impl<J: Journal> Peer<J> {
     /// The cost is that of [`Document::text_at`].
     pub fn read_at(&self, hashes: &[Hash]) -> Result<String, PeerError>
         ensures { PeerStep self.now (ReadAt hashes.now)
-            (replied (λ t. Text (chars (string_bytes t))) result) self.now }
+            (reply_of_result (λ t. Text (chars (string_bytes t))) result) self.now }
     {
         if self.stopped {
             return Err(PeerError::Stopped);
         }
-        read_at_on(&self.document, hashes).into_text()
+        match self.document.text_at(hashes) {
+            Ok(text) => Ok(text),
+            Err(error) => Err(PeerError::from(error)),
+        }
     }
 
     /// The hashes of the applied changes on which no applied change depends, rising. The only refusal is `Stopped`.
     pub fn heads(&self) -> Result<&[Hash], PeerError>
         ensures { PeerStep self.now ReadHeads
-            (replied (λ hs. Heads hs.now) result) self.now }
+            (reply_of_result (λ hs. Heads hs.now) result) self.now }
     {
         if self.stopped {
             return Err(PeerError::Stopped);
@@ -135,8 +128,8 @@ impl<J: Journal> Peer<J> {
         self.actor
     }
 
-    /// Makes the edits from now on those of another actor, of which a change may be there already. No two peers may edit under
-    /// one actor at a time.
+    /// Makes the edits from now on those of another actor; a change of that actor may be there already. No two peers
+    /// may edit under one actor at a time.
     pub fn set_actor(&mut self, actor: Actor)
         ensures { self.new ≡ record self.old { actor = actor } }
     {
@@ -171,6 +164,6 @@ impl<J: Journal> Peer<J> {
             appender,
             stopped: _,
         } = self;
-        appender.into_journal()
+        appender.journal
     }
 }

@@ -2,17 +2,16 @@
 
 ghost use Rattle.std.specs.Prelude.{◌≡◌, false, IfOk, IfErr, OnOk};
 ghost use Rattle.tp_opid.specs.declared.actor.Actor.{Actor as ActorOf};
-ghost use Rattle.tp_peer.specs.Appending.{IsKept, JournalState};
-ghost use Rattle.tp_peer.specs.PeerData.{peer_data};
+ghost use Rattle.tp_peer.specs.Appending.{IsDurable, JournalState};
+ghost use Rattle.tp_peer.specs.PeerState.{peer_state};
 ghost use Rattle.tp_peer.specs.PeerError.{is_failed};
-ghost use Rattle.tp_peer.specs.PeerStep.{PeerStep, Receive, Received as Reported, Generate, Generated, Forget, Forgotten, Hears, RefusesDecoding, RefusesReceive, Speaks, RefusesGenerate, replied};
+ghost use Rattle.tp_peer.specs.PeerStep.{PeerStep, Receive, Received as Reported, Generate, Generated, Forget, Forgotten, ReceivesMessage, RefusesDecoding, RefusesReceive, Speaks, RefusesGenerate, reply_of_result};
 ghost use Rattle.tp_peer.specs.Sent.{sent_of};
 ghost use Rattle.tp_peer.specs.Taking.{journal_of, report_of};
-ghost use Rattle.tp_sync.specs.Spelling.{message_spelling};
+ghost use Rattle.tp_message.specs.Spelling.{message_spelling};
 
 use crate::appender::Appender;
-use crate::call::{Call, Request};
-use crate::error::PeerError;
+use crate::error::{PeerError, stops};
 use crate::exchanged::{Outgoing, Received};
 use crate::links::{Link, Links};
 use crate::peer::Peer;
@@ -34,7 +33,7 @@ fn message_of(alloc: Global, bytes: &[u8]) -> Result<Message, PeerError>
 }
 
 // Receives the message of a link. All that can fail comes before its changes, and nothing after them.
-pub(crate) fn receive_message_on<J: Journal>(
+fn receive_message_on<J: Journal>(
     alloc: Global,
     document: &mut Document<PeerSequence>,
     links: &mut Links,
@@ -43,18 +42,18 @@ pub(crate) fn receive_message_on<J: Journal>(
     message: Message,
 ) -> Result<Received, PeerError>
     ensures ok { (actor : ActorOf) → IfOk result
-        (λ r. Hears (peer_data actor document.old links.old.known appender.old false) link.0
+        (λ r. ReceivesMessage (peer_state actor document.old links.old.known appender.old false) link.0
         (message_spelling message) (report_of r.applied) r.same_heads
-        (peer_data actor document.new links.new.known appender.new false)) }
+        (peer_state actor document.new links.new.known appender.new false)) }
     ensures err { (actor : ActorOf) → IfErr result
-        (λ e. RefusesReceive (peer_data actor document.old links.old.known appender.old false) link.0
+        (λ e. RefusesReceive (peer_state actor document.old links.old.known appender.old false) link.0
         (message_spelling message) e
-        (peer_data actor document.new links.new.known appender.new (is_failed e))) }
+        (peer_state actor document.new links.new.known appender.new (is_failed e))) }
 {
     if links.is_full_for(link) {
         return Err(PeerError::TooManyLinks);
     }
-    let mut state = links.known(alloc, link)?;
+    let mut state = links.state_on(alloc, link)?;
     links.reserve()?;
     let same_heads = state.is_declared(message.heads());
     match receive_with(document, &mut state, message, appender) {
@@ -70,7 +69,7 @@ pub(crate) fn receive_message_on<J: Journal>(
 }
 
 // Receives the message that the bytes are. A link that has no place is refused before they are read.
-pub(crate) fn receive_on<J: Journal>(
+fn receive_on<J: Journal>(
     alloc: Global,
     document: &mut Document<PeerSequence>,
     links: &mut Links,
@@ -79,13 +78,13 @@ pub(crate) fn receive_on<J: Journal>(
     bytes: &[u8],
 ) -> Result<Received, PeerError>
     ensures ok { (actor : ActorOf) → IfOk result
-        (λ r. Hears (peer_data actor document.old links.old.known appender.old false) link.0
+        (λ r. ReceivesMessage (peer_state actor document.old links.old.known appender.old false) link.0
         bytes.now (report_of r.applied) r.same_heads
-        (peer_data actor document.new links.new.known appender.new false)) }
+        (peer_state actor document.new links.new.known appender.new false)) }
     ensures err { (actor : ActorOf) → IfErr result
-        (λ e. RefusesReceive (peer_data actor document.old links.old.known appender.old false) link.0
+        (λ e. RefusesReceive (peer_state actor document.old links.old.known appender.old false) link.0
         bytes.now e
-        (peer_data actor document.new links.new.known appender.new (is_failed e))) }
+        (peer_state actor document.new links.new.known appender.new (is_failed e))) }
 {
     if links.is_full_for(link) {
         return Err(PeerError::TooManyLinks);
@@ -102,16 +101,16 @@ fn message_on(
     link: Link,
 ) -> Result<Option<Outgoing>, PeerError>
     ensures ok { (actor : ActorOf) (k : JournalState) → IfOk result
-        (λ sent. Speaks (peer_data actor document.now links.old.known k false) link.0 (sent_of sent)
-        (peer_data actor document.now links.new.known k false)) }
+        (λ sent. Speaks (peer_state actor document.now links.old.known k false) link.0 (sent_of sent)
+        (peer_state actor document.now links.new.known k false)) }
     ensures err { (actor : ActorOf) (k : JournalState) → IfErr result
-        (λ e. RefusesGenerate (peer_data actor document.now links.old.known k false) link.0 e
-        (peer_data actor document.now links.new.known k false)) }
+        (λ e. RefusesGenerate (peer_state actor document.now links.old.known k false) link.0 e
+        (peer_state actor document.now links.new.known k false)) }
 {
     if links.is_full_for(link) {
         return Err(PeerError::TooManyLinks);
     }
-    let mut state = links.known(alloc, link)?;
+    let mut state = links.state_on(alloc, link)?;
     links.reserve()?;
     match generate_bytes(alloc, document, &mut state) {
         Ok(Some(bytes)) => {
@@ -125,20 +124,20 @@ fn message_on(
 }
 
 // Settles the journal, and makes the next message of a link: it declares what is kept.
-pub(crate) fn generate_on<J: Journal>(
+fn generate_on<J: Journal>(
     alloc: Global,
     document: &Document<PeerSequence>,
     links: &mut Links,
     appender: &mut Appender<J>,
     link: Link,
 ) -> Result<Option<Outgoing>, PeerError>
-    ensures settled { OnOk result (IsKept J.content J.device J.is_settled appender.new) }
+    ensures settled { OnOk result (IsDurable J.content J.device J.is_settled appender.new) }
     ensures ok { (actor : ActorOf) → IfOk result
-        (λ sent. Speaks (peer_data actor document.now links.old.known appender.old false) link.0
-        (sent_of sent) (peer_data actor document.now links.new.known appender.new false)) }
+        (λ sent. Speaks (peer_state actor document.now links.old.known appender.old false) link.0
+        (sent_of sent) (peer_state actor document.now links.new.known appender.new false)) }
     ensures err { (actor : ActorOf) → IfErr result
-        (λ e. RefusesGenerate (peer_data actor document.now links.old.known appender.old false) link.0 e
-        (peer_data actor document.now links.new.known appender.new (is_failed e))) }
+        (λ e. RefusesGenerate (peer_state actor document.now links.old.known appender.old false) link.0 e
+        (peer_state actor document.now links.new.known appender.new (is_failed e))) }
 {
     match appender.settle() {
         Ok(()) => message_on(alloc, document, links, link),
@@ -162,19 +161,42 @@ impl<J: Journal> Peer<J> {
     /// One pass over the bytes, one look-up for each change, and one append for each that enters.
     pub fn receive_bytes(&mut self, link: Link, bytes: &[u8]) -> Result<Received, PeerError>
         ensures { PeerStep self.old (Receive link.0 bytes.now)
-            (replied (λ r. Reported (report_of r.applied) r.same_heads) result) self.new }
+            (reply_of_result (λ r. Reported (report_of r.applied) r.same_heads) result) self.new }
     {
-        self.call(Call::Receive { link, bytes }).into_received()
+        if self.stopped {
+            return Err(PeerError::Stopped);
+        }
+        let received = receive_on(
+            self.alloc,
+            &mut self.document,
+            &mut self.links,
+            &mut self.appender,
+            link,
+            bytes,
+        );
+        self.stopped = stops(&received);
+        received
     }
 
     /// Receives a message that was decoded, as [`receive_bytes`](Peer::receive_bytes) receives its bytes. They aren't
     /// made, and no change is copied.
     pub fn receive_message(&mut self, link: Link, message: Message) -> Result<Received, PeerError>
         ensures { PeerStep self.old (Receive link.0 (message_spelling message))
-            (replied (λ r. Reported (report_of r.applied) r.same_heads) result) self.new }
+            (reply_of_result (λ r. Reported (report_of r.applied) r.same_heads) result) self.new }
     {
-        self.answer(Request::Message { link, message })
-            .into_received()
+        if self.stopped {
+            return Err(PeerError::Stopped);
+        }
+        let heard = receive_message_on(
+            self.alloc,
+            &mut self.document,
+            &mut self.links,
+            &mut self.appender,
+            link,
+            message,
+        );
+        self.stopped = stops(&heard);
+        heard
     }
 
     /// The next message on a link, as Automerge's call `generate_sync_message`, or `None` where there is nothing to say:
@@ -189,17 +211,32 @@ impl<J: Journal> Peer<J> {
     /// The cost is that of [`generate_bytes`](tp_sync::generate_bytes), and of settling the journal.
     pub fn generate_bytes(&mut self, link: Link) -> Result<Option<Outgoing>, PeerError>
         ensures settled { OnOk result
-            (IsKept J.content J.device J.is_settled (journal_of self.new)) }
+            (IsDurable J.content J.device J.is_settled (journal_of self.new)) }
         ensures step { PeerStep self.old (Generate link.0)
-            (replied (λ sent. Generated (sent_of sent)) result) self.new }
+            (reply_of_result (λ sent. Generated (sent_of sent)) result) self.new }
     {
-        self.call(Call::Generate { link }).into_generated()
+        if self.stopped {
+            return Err(PeerError::Stopped);
+        }
+        let sent = generate_on(
+            self.alloc,
+            &self.document,
+            &mut self.links,
+            &mut self.appender,
+            link,
+        );
+        self.stopped = stops(&sent);
+        sent
     }
 
     /// Forgets all that is known on a link, which may be absent. The only refusal is `Stopped`. No memory.
     pub fn forget_link(&mut self, link: Link) -> Result<(), PeerError>
-        ensures { PeerStep self.old (Forget link.0) (replied (λ _. Forgotten) result) self.new }
+        ensures { PeerStep self.old (Forget link.0) (reply_of_result (λ _. Forgotten) result) self.new }
     {
-        self.call(Call::Forget { link }).into_forgotten()
+        if self.stopped {
+            return Err(PeerError::Stopped);
+        }
+        self.links.forget(link);
+        Ok(())
     }
 }

@@ -1,19 +1,14 @@
 -- Counts in groups: sums of the first counts, and what a change to a count, and one count more, leave of the sums.
-use Rattle.std.proofs.Common.{◌≡◌, ◌⊎◌, inl, inr, ℕ, zero, suc, ◌+◌, ◌-◌, ◌*◌, ◌/◌, ◌%◌, ◌^◌, ◌<◌, ◌≤◌, List, [], ◌∷◌, ◌++◌, length, take, drop, get_or, set, sum, min, refl, sym, ap, ◌∙◌, arith, length-append}
+use Rattle.std.proofs.Common.{◌≡◌, inl, inr, ℕ, zero, suc, ◌+◌, ◌-◌, ◌*◌, ◌/◌, ◌%◌, ◌^◌, ◌<◌, ◌≤◌, List, [], ◌∷◌, ◌++◌, length, take, drop, get_or, set, sum, min, refl, sym, ap, ◌∙◌, arith, length-append}
 use Rattle.std.proofs.lemmas.List.{take-set-le, take-append-le, length-set}
 use Rattle.std.proofs.lemmas.Grind.{div_ceil_times}
 use Rattle.std.proofs.lemmas.Nat.{mul-le}
 use Rattle.std.proofs.lemmas.List.Sums.{sum_by-cons, sum_by-append, sum_by_more}
-use Rattle.tp_posindex.specs.Counted.{AreSums, IsGrouped, IsSummed}
+use Rattle.tp_elements.proofs.Lists.{below_or_not}
+use Rattle.tp_posindex.specs.CountsState.{AreSums, IsGrouped, IsSummed}
 use Rattle.tp_posindex.proofs.Laying.{sum_stretch}
 
 -- ---- numbers
-
--- one number is below another or isn't
-pub below_or_not : (k n : ℕ) → (k < n) ⊎ (n ≤ k)
-below_or_not k zero = inr (omega arith)
-below_or_not zero (suc n) = inl (omega arith)
-below_or_not (suc k) (suc n) = elim (below_or_not k n) as (λ _. (suc k < suc n) ⊎ (suc n ≤ suc k)) [ inl h ↦ inl (omega (arith, h)) | inr h ↦ inr (omega (arith, h)) ]
 
 -- ---- lists
 

@@ -1,16 +1,17 @@
--- Where each block stands in the order, and how long each is: what look-ups find, and what an insert and a split leave.
+-- Where each block is in the order, and how long each is: what look-ups find, and what an insert and a split leave.
 use Rattle.tp_list.proofs.Members.{In-get_or, In-index}
 use Rattle.std.proofs.Common.{◌≡◌, ◌⊎◌, inl, inr, ℕ, zero, suc, ◌+◌, ◌-◌, ◌<◌, ◌≤◌, Bool, false, Some, List, [], ◌∷◌, ◌++◌, length, take, drop, get_or, insert, set, map, sum, slice_get, refl, sym, ap, ◌∙◌, subst, arith, length-append}
 use Rattle.std.proofs.lemmas.List.{get_or-set_other, get_or-set_same, length-map, length-take, length-drop}
 use Rattle.std.proofs.lemmas.List.Sums.{sum_by-cons}
 use Rattle.tp_list.specs.Members.{In}
 use Rattle.tp_rga.proofs.Flagging.{map-insert}
-use Rattle.tp_posindex.specs.Layout.{joined, block_at, StandsAt}
-use Rattle.tp_posindex.specs.Laid.{count_of, Once, IsNumbered, laid}
-use Rattle.tp_posindex.specs.Kept.{AreIndexed, IsKept}
-use Rattle.tp_posindex.specs.Counted.{split_at}
+use Rattle.tp_elements.proofs.Lists.{get_or-prefix, get_or-any, get_or-of_map}
+use Rattle.tp_posindex.specs.Layout.{concat_blocks, block_at, StandsAt}
+use Rattle.tp_posindex.specs.Laid.{count_visible, Once, IsNumbered, blocks_in_order}
+use Rattle.tp_posindex.specs.Kept.{AreIndexed, BlocksInvariant}
+use Rattle.tp_posindex.specs.CountsState.{split_at}
 use Rattle.tp_posindex.proofs.Joining.{cut_at}
-use Rattle.tp_posindex.proofs.Laying.{get_or-prefix, get_or-any, get_or-of_map, get_or-there, map-replaced, length-laid, count-le, counts_all, home_there, home_stands}
+use Rattle.tp_posindex.proofs.Laying.{get_or-there, map-replaced, length-blocks_in_order, count-le, counts_all, home_there, home_present}
 
 -- ---- the index of each block
 
@@ -38,7 +39,7 @@ indexed_more order index i once lt within before p less =
       | inr is ↦ ap (λ (z : ℕ). get_or (set index k i) (get_or order z 0) 0) is ∙ get_or-set_same index k i 0 within ∙ sym is
     ]
 
--- what stands before something that is put in
+-- what is before something that is put in
 get_or-insert-lt : (xs : List ℕ) (n i v d : ℕ) → n < i → i ≤ length xs → get_or (insert xs i v) n d ≡ get_or xs n d
 get_or-insert-lt xs n zero v d less le = absurd (omega arith)
 get_or-insert-lt [] n (suc i) v d less le = absurd (omega arith)
@@ -54,54 +55,54 @@ indexed_before order index q m n ordered many indexed le p less =
     ∙ get_or-prefix index (n ∷ []) (get_or order p 0) 0 within
     ∙ indexed p lt
 
--- a number stands where the index has its home
-pub home_indexed : (pool : List (List ℕ)) (order index lens visible home : List ℕ) (flags : List Bool) (k h p offset : ℕ) (b : List ℕ) → IsKept pool order index lens visible home flags → k < length flags → h ≡ get_or home k h → p ≡ get_or index h p → b ≡ get_or pool h b → slice_get b offset ≡ Some k → StandsAt (laid pool order) p offset k
+-- a number is where the index has its home
+pub home_indexed : (pool : List (List ℕ)) (order index lens visible home : List ℕ) (flags : List Bool) (k h p offset : ℕ) (b : List ℕ) → BlocksInvariant pool order index lens visible home flags → k < length flags → h ≡ get_or home k h → p ≡ get_or index h p → b ≡ get_or pool h b → slice_get b offset ≡ Some k → StandsAt (blocks_in_order pool order) p offset k
 home_indexed pool order index lens visible home flags k h p offset b kept lt h_is p_is b_is at =
     let there = home_there pool order visible home flags k h kept.blocks lt h_is in
     let found = In-index h order there.0 in
     let within : h < length index = (let m = kept.blocks.ordered.many in let n = kept.many in let w = there.1 in omega arith) in
     let is : p ≡ found.0 = p_is ∙ get_or-any index h p 0 within ∙ ap (λ (z : ℕ). get_or index z 0) (sym (found.2 0)) ∙ kept.indexed found.0 found.1 in
-    let stands : slice_get order p ≡ Some h = ap (slice_get order) is ∙ get_or-there order found.0 h 0 found.1 (found.2 0) in
-    home_stands pool order p h offset k b stands there.1 b_is at
+    let present : slice_get order p ≡ Some h = ap (slice_get order) is ∙ get_or-there order found.0 h 0 found.1 (found.2 0) in
+    home_present pool order p h offset k b present there.1 b_is at
 
 -- ---- lengths
 
 -- the lengths of the blocks before one are where it begins
-pub lengths_before : (bs : List (List ℕ)) (p : ℕ) → sum (take p (map length bs)) ≡ length (joined (take p bs))
+pub lengths_before : (bs : List (List ℕ)) (p : ℕ) → sum (take p (map length bs)) ≡ length (concat_blocks (take p bs))
 lengths_before bs zero = refl
 lengths_before [] (suc p) = refl
 lengths_before (b ∷ bs) (suc p) =
     sum_by-cons (λ (x : ℕ). x) (length b) (take p (map length bs))
     ∙ ap (λ n. length b + n) (lengths_before bs p)
-    ∙ sym (length-append b (joined (take p bs)))
+    ∙ sym (length-append b (concat_blocks (take p bs)))
 
 -- the lengths of all blocks are the length of the whole
-pub lengths_all : (bs : List (List ℕ)) → sum (map length bs) ≡ length (joined bs)
+pub lengths_all : (bs : List (List ℕ)) → sum (map length bs) ≡ length (concat_blocks bs)
 lengths_all [] = refl
 lengths_all (b ∷ bs) =
     sum_by-cons (λ (x : ℕ). x) (length b) (map length bs)
     ∙ ap (λ n. length b + n) (lengths_all bs)
-    ∙ sym (length-append b (joined bs))
+    ∙ sym (length-append b (concat_blocks bs))
 
 -- the length that is kept of a block
 pub length_kept : (bs : List (List ℕ)) (lens : List ℕ) (p : ℕ) → lens ≡ map length bs → p < length bs → get_or lens p 0 ≡ length (block_at bs p)
 length_kept bs lens p measured lt = ap (λ z. get_or z p 0) measured ∙ get_or-of_map length bs p 0 [] lt
 
--- so many are kept for each of the blocks
-pub many_kept : (pool : List (List ℕ)) (order index lens visible home : List ℕ) (flags : List Bool) → IsKept pool order index lens visible home flags → (length lens ≡ length (laid pool order)) × (length visible ≡ length (laid pool order))
+-- as many are kept as there are blocks
+pub many_kept : (pool : List (List ℕ)) (order index lens visible home : List ℕ) (flags : List Bool) → BlocksInvariant pool order index lens visible home flags → (length lens ≡ length (blocks_in_order pool order)) × (length visible ≡ length (blocks_in_order pool order))
 many_kept pool order index lens visible home flags kept = (
-  ap (λ (z : List ℕ). length z) kept.measured ∙ length-map (laid pool order) length,
-  ap (λ (z : List ℕ). length z) kept.blocks.counted ∙ length-map (laid pool order) (count_of flags),
+  ap (λ (z : List ℕ). length z) kept.measured ∙ length-map (blocks_in_order pool order) length,
+  ap (λ (z : List ℕ). length z) kept.blocks.counted ∙ length-map (blocks_in_order pool order) (count_visible flags),
 )
 
 -- the lengths and the counts are of no more than there are flags
-pub kept_within : (pool : List (List ℕ)) (order index lens visible home : List ℕ) (flags : List Bool) → IsKept pool order index lens visible home flags → (sum lens ≤ length flags) × (sum visible ≤ length flags)
+pub kept_within : (pool : List (List ℕ)) (order index lens visible home : List ℕ) (flags : List Bool) → BlocksInvariant pool order index lens visible home flags → (sum lens ≤ length flags) × (sum visible ≤ length flags)
 kept_within pool order index lens visible home flags kept =
-    let bs = laid pool order in
+    let bs = blocks_in_order pool order in
     let many = kept.blocks.numbered.many in
-    let lengths : sum lens ≡ length (joined bs) = ap sum kept.measured ∙ lengths_all bs in
-    let counts : sum visible ≡ count_of flags (joined bs) = ap sum kept.blocks.counted ∙ counts_all flags bs in
-    let le = count-le flags (joined bs) in (omega arith, omega arith)
+    let lengths : sum lens ≡ length (concat_blocks bs) = ap sum kept.measured ∙ lengths_all bs in
+    let counts : sum visible ≡ count_visible flags (concat_blocks bs) = ap sum kept.blocks.counted ∙ counts_all flags bs in
+    let le = count-le flags (concat_blocks bs) in (omega arith, omega arith)
 
 -- the lengths where a block has one number more
 pub measured_put : (bs : List (List ℕ)) (lens : List ℕ) (p : ℕ) (w : List ℕ) → lens ≡ map length bs → p < length bs → length w ≡ suc (length (block_at bs p)) → set lens p (get_or lens p 0 + 1) ≡ map length (set bs p w)
@@ -141,7 +142,7 @@ zero_alone = record {
 }
 
 -- one block, with one number whose flag is down
-first_block : IsKept ((0 ∷ []) ∷ []) (0 ∷ []) (0 ∷ []) (1 ∷ []) (1 ∷ []) (0 ∷ []) (false ∷ [])
+first_block : BlocksInvariant ((0 ∷ []) ∷ []) (0 ∷ []) (0 ∷ []) (1 ∷ []) (1 ∷ []) (0 ∷ []) (false ∷ [])
 first_block = record {
   blocks = record {
     ordered = zero_alone;
@@ -162,12 +163,12 @@ first_block = record {
 }
 
 -- where there is no block, the first is opened
-pub IsKept-first : (pool : List (List ℕ)) (order index lens visible home : List ℕ) (flags : List Bool) → IsKept pool order index lens visible home flags → laid pool order ≡ [] → IsKept (pool ++ (0 ∷ []) ∷ []) (order ++ 0 ∷ []) (index ++ 0 ∷ []) (insert lens 0 1) (insert visible 0 1) (home ++ 0 ∷ []) (flags ++ false ∷ [])
-IsKept-first pool order index lens visible home flags kept none =
+pub BlocksInvariant-first : (pool : List (List ℕ)) (order index lens visible home : List ℕ) (flags : List Bool) → BlocksInvariant pool order index lens visible home flags → blocks_in_order pool order ≡ [] → BlocksInvariant (pool ++ (0 ∷ []) ∷ []) (order ++ 0 ∷ []) (index ++ 0 ∷ []) (insert lens 0 1) (insert visible 0 1) (home ++ 0 ∷ []) (flags ++ false ∷ [])
+BlocksInvariant-first pool order index lens visible home flags kept none =
     let no_blocks = ap (λ (z : List (List ℕ)). length z) none in
-    let size = length-laid pool order in
+    let size = length-blocks_in_order pool order in
     let counts = many_kept pool order index lens visible home flags kept in
-    let no_numbers = ap (λ (z : List (List ℕ)). length (joined z)) none in
+    let no_numbers = ap (λ (z : List (List ℕ)). length (concat_blocks z)) none in
     let o : order ≡ [] = nothing order (omega arith) in
     let p : pool ≡ [] = nothing pool (let m = kept.blocks.ordered.many in omega arith) in
     let i : index ≡ [] = nothing index (let m = kept.many in omega arith) in

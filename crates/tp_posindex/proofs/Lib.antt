@@ -5,7 +5,3 @@ pub mod Keeping
 pub mod Rooms
 pub mod Seeking
 pub mod Sequencing
-pub mod ByActor
-pub mod Linking
-pub mod Columning
-pub mod Entering

@@ -13,7 +13,7 @@ three_above n a b c h k l = omega arith
 pub room_grows : (blocks blocks' numbers numbers' spare spare' slots slots' : ℕ) → blocks' ≡ blocks → numbers' ≡ numbers → spare ≤ spare' → slots ≤ slots' → min slots (max spare (64 * (blocks + spare) - numbers)) ≤ min slots' (max spare' (64 * (blocks' + spare') - numbers'))
 room_grows blocks blocks' numbers numbers' spare spare' slots slots' e f h k = omega arith
 
--- with so many spare blocks there is room for n
+-- with `spare` spare blocks there is room for n
 pub room_enough : (n blocks numbers each spare slots : ℕ) → min n (each - blocks) ≤ spare → numbers + n ≤ 64 * each → n ≤ slots → n ≤ min slots (max spare (64 * (blocks + spare) - numbers))
 room_enough n blocks numbers each spare slots h k l = omega arith
 

@@ -2,7 +2,7 @@
 use Rattle.std.specs.Prelude.{◌≡◌, ℕ, List, length}
 use Rattle.tp_opid.specs.declared.op_id.OpId.{OpId}
 use Rattle.tp_opid.specs.Insert.{Insert}
-use Rattle.tp_rga.specs.Shown.{shown}
+use Rattle.tp_rga.specs.Shown.{visible_of}
 use Rattle.tp_posindex.specs.declared.block_info.BlockInfo.{BlockInfo}
 use Rattle.tp_posindex.specs.Layout.{block_at, index_at}
 
@@ -18,4 +18,4 @@ pub record BlockState : Type 0 where
 pub record IsInfoOf (s : BlockState) (p : ℕ) (info : BlockInfo) : Type 0 where
   pub first : info.first ≡ index_at s.blocks p 0
   pub len : info.len ≡ length (block_at s.blocks p)
-  pub visible : info.visible ≡ length (shown s.removals (block_at s.blocks p))
+  pub visible : info.visible ≡ length (visible_of s.removals (block_at s.blocks p))

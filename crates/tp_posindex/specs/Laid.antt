@@ -1,7 +1,7 @@
 -- Numbers of elements in blocks, with a flag for each: what contracts see, and what always holds of the parts.
 use Rattle.std.specs.Prelude.{◌≡◌, ℕ, ◌+◌, ◌-◌, ◌*◌, ◌<◌, Bool, false, not, List, [], ◌∷◌, length, filter, map, min, max, slice_index_or}
 use Rattle.tp_list.specs.Members.{In}
-use Rattle.tp_posindex.specs.Layout.{joined, block_at, AreSized}
+use Rattle.tp_posindex.specs.Layout.{concat_blocks, block_at, AreSized}
 
 -- The blocks in list order, each as the numbers of its elements; for each number whether its element is deleted; how
 -- many blocks can be opened, and how many numbers can be taken in, without further memory.
@@ -25,10 +25,10 @@ abbrev pub flags_of : List Bool → List ℕ → List Bool
 flags_of flags ks = map (flag_of flags) ks
 
 -- how many of the numbers have their flag down
-abbrev pub count_of : List Bool → List ℕ → ℕ
-count_of flags ks = length (filter not (flags_of flags ks))
+abbrev pub count_visible : List Bool → List ℕ → ℕ
+count_visible flags ks = length (filter not (flags_of flags ks))
 
--- No number stands in the list twice.
+-- No number is in the list twice.
 abbrev pub Once : List ℕ → Type 0
 Once [] = Unit {0}
 Once (k ∷ ks) = (In k ks → ⊥) × Once ks
@@ -41,16 +41,16 @@ pub record IsNumbered (n : ℕ) (ks : List ℕ) : Type 0 where
   pub once : Once ks
 
 -- the blocks of a pool in an order of their numbers
-abbrev pub laid : List (List ℕ) → List ℕ → List (List ℕ)
-laid pool order = map (block_at pool) order
+abbrev pub blocks_in_order : List (List ℕ) → List ℕ → List (List ℕ)
+blocks_in_order pool order = map (block_at pool) order
 
 -- The order has each block of the pool once; the home of each number is the block that holds it; the blocks hold
 -- each number once; the counts are those of the flags that are down.
-pub record IsLaid (pool : List (List ℕ)) (order visible home : List ℕ) (flags : List Bool) : Type 0 where
+pub record PoolInvariant (pool : List (List ℕ)) (order visible home : List ℕ) (flags : List Bool) : Type 0 where
   pub ordered : IsNumbered (length pool) order
   pub homes : length home ≡ length flags
   pub at_home : (k : ℕ) → k < length flags → slice_index_or home k 0 < length pool
   pub housed : (k : ℕ) → k < length flags → In k (block_at pool (slice_index_or home k 0))
-  pub numbered : IsNumbered (length flags) (joined (laid pool order))
-  pub counted : visible ≡ map (count_of flags) (laid pool order)
-  pub sized : AreSized (laid pool order)
+  pub numbered : IsNumbered (length flags) (concat_blocks (blocks_in_order pool order))
+  pub counted : visible ≡ map (count_visible flags) (blocks_in_order pool order)
+  pub sized : AreSized (blocks_in_order pool order)

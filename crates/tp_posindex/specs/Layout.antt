@@ -3,17 +3,17 @@ use Rattle.std.specs.Prelude.{◌≡◌, ℕ, ◌+◌, ◌<◌, ◌≤◌, ◌�
 use Rattle.tp_list.specs.Members.{In}
 
 -- the blocks one after another
-abbrev pub joined : {X : Type 0} → List (List X) → List X
-joined [] = []
-joined (b ∷ bs) = b ++ joined bs
+abbrev pub concat_blocks : {X : Type 0} → List (List X) → List X
+concat_blocks [] = []
+concat_blocks (b ∷ bs) = b ++ concat_blocks bs
 
 -- the block numbered p
 abbrev pub block_at : {X : Type 0} → List (List X) → ℕ → List X
 block_at bs p = slice_index_or bs p []
 
--- the index in the whole list of what stands at an offset of the block numbered p
+-- the index in the whole list of what is at an offset of the block numbered p
 abbrev pub index_at : {X : Type 0} → List (List X) → ℕ → ℕ → ℕ
-index_at bs p offset = length (joined (take p bs)) + offset
+index_at bs p offset = length (concat_blocks (take p bs)) + offset
 
 -- An offset of the block numbered p at which a new element may be put in; where there is no block yet, any block's
 -- start.
@@ -21,13 +21,13 @@ pub record IsGap {X : Type 0} (bs : List (List X)) (p offset : ℕ) : Type 0 whe
   pub block : (p < length bs) ⊎ (bs ≡ [])
   pub offset_in : offset ≤ length (block_at bs p)
 
--- Before an offset of the block numbered p, or at its end, there stand k elements.
+-- Before an offset of the block numbered p, or at its end, there are k elements.
 pub record IsAfter {X : Type 0} (bs : List (List X)) (p offset k : ℕ) : Type 0 where
   pub block : p < length bs
   pub offset_in : offset ≤ length (block_at bs p)
   pub before : index_at bs p offset ≡ k
 
--- x stands at an offset of the block numbered p.
+-- x is at an offset of the block numbered p.
 pub record StandsAt {X : Type 0} (bs : List (List X)) (p offset : ℕ) (x : X) : Type 0 where
   pub block : p < length bs
   pub at : slice_get (block_at bs p) offset ≡ Some x

@@ -2,10 +2,5 @@ pub mod Layout
 pub mod BlockState
 pub mod Laid
 pub mod Kept
-pub mod Counted
+pub mod CountsState
 pub mod Blocked
-pub mod Came
-pub mod Columns
-pub mod Entered
-pub mod Actors
-pub mod Indexed

@@ -1,4 +1,4 @@
-//! One block: the numbers of up to 128 elements that stand one after another.
+//! One block: the numbers of up to 128 elements in sequence.
 
 ghost use Rattle.std.specs.Prelude.{◌≡◌, ◌<◌, ◌≤◌, [], ◌∷◌, length, take, drop, insert};
 
@@ -44,7 +44,7 @@ impl Block {
     }
 
     /// A block with the same numbers.
-    pub fn copied(&self) -> Block
+    pub fn copy(&self) -> Block
         ensures { result ≡ self.now }
     {
         let mut numbers = ArrayVec::new();
@@ -57,7 +57,7 @@ impl Block {
         Block { numbers }
     }
 
-    /// Puts a number in at an offset. It moves those behind it.
+    /// Puts a number in at an offset. It moves those after it.
     pub fn put(&mut self, offset: usize, number: u32)
         requires offset { offset ≤ length self.old }
         requires room { length self.old < MOST }

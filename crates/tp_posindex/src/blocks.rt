@@ -3,9 +3,9 @@
 ghost use Rattle.std.specs.Prelude.{◌≡◌, ℕ, ◌+◌, ◌-◌, ◌^◌, ◌<◌, ◌≤◌, Bool, true, false, not, [], ◌∷◌, ◌++◌, length, take, drop, filter, insert, slice_set, slice_index_or, IfSome, IfNone, IsOk, IsTrue, IfOk, OnOk, OnErr};
 ghost use Rattle.std.specs.List.{All};
 ghost use Rattle.tp_list.specs.Members.{In};
-ghost use Rattle.tp_posindex.specs.Layout.{joined, block_at, index_at, IsGap, StandsAt, AreSized};
+ghost use Rattle.tp_posindex.specs.Layout.{concat_blocks, block_at, index_at, IsGap, StandsAt, AreSized};
 ghost use Rattle.tp_posindex.specs.Kept.{AreIndexed};
-ghost use Rattle.tp_posindex.specs.Laid.{room_of, flag_of, flags_of, count_of, IsNumbered};
+ghost use Rattle.tp_posindex.specs.Laid.{room_of, flag_of, flags_of, count_visible, IsNumbered};
 
 use crate::block::{Block, HALF, MOST};
 use crate::counts::Counts;
@@ -20,7 +20,7 @@ const MOST_NUMBERS: usize = 4_294_967_295;
 
 /// Numbers in blocks. Number `k` is the one that was put in as the `k`-th, from 0.
 ///
-/// `pool` has the blocks by their own numbers, `order` these in list order, and `index` for each where it stands in the
+/// `pool` has the blocks by their own numbers, `order` these in list order, and `index` for each where it is in the
 /// order; `lens` has for each block in list order how many numbers it holds, and `visible` how many of them have their
 /// flag down; `home` has for each number the block that holds it. `recent` is the spot that the latest number went to, and
 /// is looked at first.
@@ -39,13 +39,13 @@ pub(crate) struct Blocks {
 impl Model for Blocks {
     ghost use Rattle.std.specs.Prelude.{◌-◌, min, length};
     ghost use Rattle.std.specs.Vec.{vec_len, vec_capacity};
-    ghost use Rattle.tp_posindex.specs.Laid.{Layout, IsLaid, laid};
-    ghost use Rattle.tp_posindex.specs.Kept.{IsKept};
+    ghost use Rattle.tp_posindex.specs.Laid.{Layout, PoolInvariant, blocks_in_order};
+    ghost use Rattle.tp_posindex.specs.Kept.{BlocksInvariant};
 
     ghost Value = { Layout };
 
     ghost view = { λ b. record {
-      blocks = laid b.pool.items b.order.items;
+      blocks = blocks_in_order b.pool.items b.order.items;
       flags = b.deleted.items;
       spare = min
           (vec_capacity b.pool - vec_len b.pool)
@@ -58,7 +58,7 @@ impl Model for Blocks {
     } };
 
     ghost invariant = { λ b.
-        IsKept b.pool.items b.order.items b.index.items b.lens.counts b.visible.counts b.home.items b.deleted.items };
+        BlocksInvariant b.pool.items b.order.items b.index.items b.lens.counts b.visible.counts b.home.items b.deleted.items };
 }
 
 impl Blocks {
@@ -83,15 +83,15 @@ impl Blocks {
     }
 
     /// The same numbers in the same blocks, with the same flags. Where memory is short it is an `Err`.
-    pub fn copied(&self, alloc: Global) -> Result<Blocks, AllocError>
+    pub fn copy(&self, alloc: Global) -> Result<Blocks, AllocError>
         ensures blocks { IfOk result (λ copy. copy.blocks ≡ self.now.blocks) }
         ensures flags { IfOk result (λ copy. copy.flags ≡ self.now.flags) }
     {
         let pool = copies(alloc, &self.pool)?;
         let order = copy_with_room(alloc, self.order.as_slice())?;
         let index = copy_with_room(alloc, self.index.as_slice())?;
-        let lens = self.lens.copied(alloc)?;
-        let visible = self.visible.copied(alloc)?;
+        let lens = self.lens.copy(alloc)?;
+        let visible = self.visible.copy(alloc)?;
         let home = copy_with_room(alloc, self.home.as_slice())?;
         let deleted = copy_with_room(alloc, self.deleted.as_slice())?;
         Ok(Blocks {
@@ -147,7 +147,7 @@ impl Blocks {
     pub fn count(&self) -> usize
         ensures count { result ≡ length self.now.blocks }
         ensures sized { AreSized self.now.blocks }
-        ensures numbered { IsNumbered (length self.now.flags) (joined self.now.blocks) }
+        ensures numbered { IsNumbered (length self.now.flags) (concat_blocks self.now.blocks) }
     {
         self.order.len()
     }
@@ -167,7 +167,7 @@ impl Blocks {
     /// How many flags are down in a block. It is kept.
     pub fn visible(&self, block: usize) -> usize
         requires { block < length self.now.blocks }
-        ensures { result ≡ count_of self.now.flags (block_at self.now.blocks block) }
+        ensures { result ≡ count_visible self.now.flags (block_at self.now.blocks block) }
     {
         self.visible.get(block)
     }
@@ -192,7 +192,7 @@ impl Blocks {
         self.block(spot.block)[spot.offset] as usize
     }
 
-    /// Where a number stands. It passes over one block, or none where it is the latest number.
+    /// Where a number is. It passes over one block, or none where it is the latest number.
     pub fn spot_of(&self, number: usize) -> Spot
         requires { number < length self.now.flags }
         ensures at { StandsAt self.now.blocks result.block result.offset number }
@@ -211,7 +211,7 @@ impl Blocks {
         }
     }
 
-    /// Whether a number stands at a spot.
+    /// Whether a number is at a spot.
     fn is_at(&self, spot: Spot, number: usize) -> bool
         ensures at { IsTrue result
             → StandsAt self.now.blocks spot.block spot.offset number }
@@ -235,7 +235,7 @@ impl Blocks {
         self.lens.sum_before(block)
     }
 
-    /// Where the number at an index of the whole list stands, or `None` past its end. It passes over four bytes for each
+    /// Where the number at an index of the whole list is, or `None` past its end. It passes over four bytes for each
     /// 2,048 blocks before, and for up to 144 more.
     #[inline(never)]
     pub fn spot_at(&self, index: usize) -> Option<Spot>
@@ -243,14 +243,14 @@ impl Blocks {
             (λ s. (s.block < length self.now.blocks)
             × (s.offset < length (block_at self.now.blocks s.block))
             × (index_at self.now.blocks s.block s.offset ≡ index)) }
-        ensures none { IfNone result (length (joined self.now.blocks) ≤ index) }
+        ensures none { IfNone result (length (concat_blocks self.now.blocks) ≤ index) }
     {
         let (block, offset) = self.lens.find(index)?;
         Some(Spot { block, offset })
     }
 
-    /// Where the next number stands from a spot on: there, or at a block's end at the start of the next block; `None`
-    /// behind all numbers.
+    /// Where the next number is from a spot on: there, or at a block's end at the start of the next block; `None`
+    /// after all numbers.
     pub fn next_from(&self, spot: Spot) -> Option<Spot>
         requires block { spot.block < length self.now.blocks }
         requires offset { spot.offset ≤ length (block_at self.now.blocks spot.block) }
@@ -260,7 +260,7 @@ impl Blocks {
             × (index_at self.now.blocks s.block s.offset
             ≡ index_at self.now.blocks spot.block spot.offset)) }
         ensures none { IfNone result
-            (length (joined self.now.blocks) ≤ index_at self.now.blocks spot.block spot.offset) }
+            (length (concat_blocks self.now.blocks) ≤ index_at self.now.blocks spot.block spot.offset) }
     {
         let count = self.count();
         if spot.offset < self.block(spot.block).len() {
@@ -274,7 +274,7 @@ impl Blocks {
         }
     }
 
-    /// Where the number stands whose flag is down and before which `i` others have theirs down, or `None` where fewer
+    /// Where the number is that has its flag down, with `i` others before it that have theirs down; `None` where fewer
     /// have. It passes over four bytes for each 2,048 blocks before, and for up to 144 more, and over one block.
     pub fn nth_visible(&self, i: usize) -> Option<Spot>
         ensures found { IfSome result
@@ -282,9 +282,9 @@ impl Blocks {
             × (s.offset < length (block_at self.now.blocks s.block))
             × (flag_of self.now.flags (slice_index_or (block_at self.now.blocks s.block) s.offset 0)
             ≡ false)
-            × (count_of self.now.flags
-            (take (index_at self.now.blocks s.block s.offset) (joined self.now.blocks)) ≡ i)) }
-        ensures none { IfNone result (count_of self.now.flags (joined self.now.blocks) ≤ i) }
+            × (count_visible self.now.flags
+            (take (index_at self.now.blocks s.block s.offset) (concat_blocks self.now.blocks)) ≡ i)) }
+        ensures none { IfNone result (count_visible self.now.flags (concat_blocks self.now.blocks) ≤ i) }
     {
         let (block, left) = self.visible.find(i)?;
         match nth_down(self.block(block), &self.deleted, left) {
@@ -298,18 +298,18 @@ impl Blocks {
     pub fn visible_before(&self, spot: Spot) -> usize
         requires block { spot.block < length self.now.blocks }
         requires offset { spot.offset ≤ length (block_at self.now.blocks spot.block) }
-        ensures { result ≡ count_of self.now.flags
-            (take (index_at self.now.blocks spot.block spot.offset) (joined self.now.blocks)) }
+        ensures { result ≡ count_visible self.now.flags
+            (take (index_at self.now.blocks spot.block spot.offset) (concat_blocks self.now.blocks)) }
     {
         let numbers = self.block(spot.block);
         self.visible.sum_before(spot.block) + count_down(&numbers[..spot.offset], &self.deleted)
     }
 
-    /// Behind all numbers.
+    /// The spot after all numbers.
     pub fn end(&self) -> Spot
         ensures gap { IsGap self.now.blocks result.block result.offset }
         ensures end { index_at self.now.blocks result.block result.offset
-            ≡ length (joined self.now.blocks) }
+            ≡ length (concat_blocks self.now.blocks) }
     {
         let count = self.order.len();
         if count == 0 {
@@ -329,8 +329,8 @@ impl Blocks {
     pub fn put(&mut self, spot: Spot)
         requires room { 0 < room_of self.old }
         requires gap { IsGap self.old.blocks spot.block spot.offset }
-        ensures joined { joined self.new.blocks
-            ≡ insert (joined self.old.blocks) (index_at self.old.blocks spot.block spot.offset)
+        ensures joined { concat_blocks self.new.blocks
+            ≡ insert (concat_blocks self.old.blocks) (index_at self.old.blocks spot.block spot.offset)
             (length self.old.flags) }
         ensures flags { self.new.flags ≡ self.old.flags ++ false ∷ [] }
         ensures room { room_of self.old ≤ room_of self.new + 1 }
@@ -379,8 +379,8 @@ impl Blocks {
         }
     }
 
-    /// Splits a full block into two of 64, which comes at most once in 64 inserts. Numbers of the blocks behind it move, or
-    /// are written anew, and the sums from its group on are made anew.
+    /// Splits a full block into two of 64, which comes at most once in 64 inserts. Numbers of the blocks after it move,
+    /// or are written anew, and the sums from its group on are made anew.
     fn split(&mut self, index: usize)
         requires block { index < length self.old.blocks }
         requires full { length (block_at self.old.blocks index) ≡ MOST }
@@ -455,7 +455,7 @@ fn copies(alloc: Global, pool: &[Block]) -> Result<Vec<Block>, AllocError>
 {
     let mut copy = Vec::with_capacity(alloc, with_room(pool.len()))?;
     for block in pool {
-        copy.push(block.copied())?;
+        copy.push(block.copy())?;
     }
     Ok(copy)
 }
@@ -472,7 +472,7 @@ fn rename(home: &mut [u32], numbers: &[u32], block: u32)
     }
 }
 
-/// Says of each block from an index of the order on where it stands in the order.
+/// Says of each block from an index of the order on where it is in the order.
 fn renumber(index: &mut [u32], order: &[u32], from: usize)
     requires few { length order.now < 2 ^ 32 }
     requires from { from ≤ length order.now }

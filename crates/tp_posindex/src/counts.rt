@@ -1,7 +1,7 @@
 //! Counts in an order, with sums of groups of them.
 
 ghost use Rattle.std.specs.Prelude.{◌≡◌, ◌+◌, ◌-◌, ◌*◌, ◌^◌, ◌<◌, ◌≤◌, [], length, take, sum, insert, slice_set, slice_index_or, vec_capacity, IsOk, OnOk, IfOk, IfSome, IfNone};
-ghost use Rattle.tp_posindex.specs.Counted.{AreSums, IsGrouped, split_at};
+ghost use Rattle.tp_posindex.specs.CountsState.{AreSums, IsGrouped, split_at};
 
 use crate::numbers::{nth_counted, total};
 use std::alloc::{AllocError, Global};
@@ -18,7 +18,7 @@ const RANGE: usize = 16;
 ///
 /// The sum of each group of 128 counts that follow one another is kept, and that of each range of 16 groups. So what the
 /// first counts are together, and where the n-th of what is counted falls, take a pass over four bytes for each range
-/// before, over one range and over one group. A count that is put in moves those behind it, and makes the sums from its
+/// before, over one range and over one group. A count that is put in moves those after it, and makes the sums from its
 /// group and its range on anew.
 #[derive(Drop)]
 pub(crate) struct Counts {
@@ -30,9 +30,9 @@ pub(crate) struct Counts {
 impl Model for Counts {
     ghost use Rattle.std.specs.Prelude.{◌-◌, ◌*◌, min};
     ghost use Rattle.std.specs.Vec.{vec_len, vec_capacity};
-    ghost use Rattle.tp_posindex.specs.Counted.{Counted, IsSummed};
+    ghost use Rattle.tp_posindex.specs.CountsState.{CountsState, IsSummed};
 
-    ghost Value = { Counted };
+    ghost Value = { CountsState };
 
     ghost view = { λ c. record {
       counts = c.counts.items;
@@ -57,7 +57,7 @@ impl Counts {
     }
 
     /// The same counts, with the sums as they are. Where memory is short it is an `Err`.
-    pub fn copied(&self, alloc: Global) -> Result<Counts, AllocError>
+    pub fn copy(&self, alloc: Global) -> Result<Counts, AllocError>
         ensures { IfOk result (λ copy. copy.counts ≡ self.now.counts) }
     {
         let counts = copy_with_room(alloc, self.counts.as_slice())?;
@@ -179,7 +179,7 @@ impl Counts {
     }
 }
 
-/// Adds the sums of the groups of so many counts that have none. It takes no memory.
+/// Adds the sums of the groups of `size` counts that have none. It takes no memory.
 fn sum_up(counts: &[u32], size: usize, sums: &mut Vec<u32>)
     requires size { 0 < size }
     requires fits { sum counts.now < 2 ^ 32 }

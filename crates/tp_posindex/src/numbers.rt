@@ -2,7 +2,7 @@
 
 ghost use Rattle.std.specs.Prelude.{◌≡◌, ◌==◌, ◌+◌, ◌^◌, ◌<◌, ◌≤◌, false, length, position, take, sum, slice_index_or, IfSome, IfNone};
 ghost use Rattle.std.specs.List.{All};
-ghost use Rattle.tp_posindex.specs.Laid.{flag_of, count_of};
+ghost use Rattle.tp_posindex.specs.Laid.{flag_of, count_visible};
 
 /// The index of a number in a list, or `None` where it isn't there. One pass.
 pub(crate) fn index_of(numbers: &[u32], number: usize) -> Option<usize>
@@ -15,7 +15,7 @@ pub(crate) fn index_of(numbers: &[u32], number: usize) -> Option<usize>
 const STRIDE: usize = 8;
 
 /// From an index on, past counts in which the `n`-th of what is counted doesn't fall, as long as they can be passed over
-/// by the sum of several: the index behind them, and how many are left to count then.
+/// by the sum of several: the index after them, and how many are left to count then.
 fn skip(counts: &[u32], from: usize, n: usize) -> (usize, usize)
     requires from { from ≤ length counts.now }
     requires fits { sum counts.now < 2 ^ 64 }
@@ -73,7 +73,7 @@ pub(crate) fn total(counts: &[u32]) -> usize
 /// How many of the numbers have their flag down. One pass over the numbers.
 pub(crate) fn count_down(numbers: &[u32], flags: &[bool]) -> usize
     requires { All (λ k. k < length flags.now) numbers.now }
-    ensures { result ≡ count_of flags.now numbers.now }
+    ensures { result ≡ count_visible flags.now numbers.now }
 {
     let mut count = 0;
     for number in numbers {
@@ -91,8 +91,8 @@ pub(crate) fn nth_down(numbers: &[u32], flags: &[bool], i: usize) -> Option<usiz
     ensures found { IfSome result
         (λ index. (index < length numbers.now)
         × (flag_of flags.now (slice_index_or numbers.now index 0) ≡ false)
-        × (count_of flags.now (take index numbers.now) ≡ i)) }
-    ensures none { IfNone result (count_of flags.now numbers.now ≤ i) }
+        × (count_visible flags.now (take index numbers.now) ≡ i)) }
+    ensures none { IfNone result (count_visible flags.now numbers.now ≤ i) }
 {
     let mut left = i;
     for (index, number) in numbers.iter().enumerate() {

@@ -1,27 +1,27 @@
-//! A sequence whose elements stand in blocks.
+//! A sequence whose elements are in blocks.
 
 ghost use Rattle.tp_opid.specs.Tree.{IsThere, IsNew};
 ghost use Rattle.std.specs.Prelude.{◌≡◌, ◌↔◌, ℕ, ◌+◌, ◌-◌, ◌^◌, ◌<◌, ◌≤◌, List, [], ◌∷◌, ◌++◌, length, IsTrue, IsOk, OnOk, OnErr, Some, MatchOption, IfOk, IfSome, IfNone, IsSome, slice_get};
 ghost use Rattle.tp_opid.specs.declared.op_id.OpId.{OpId as Id};
 ghost use Rattle.tp_opid.specs.Insert.{Insert};
-ghost use Rattle.tp_posindex.specs.Layout.{joined, block_at, index_at, IsAfter, AreSized};
+ghost use Rattle.tp_posindex.specs.Layout.{concat_blocks, block_at, index_at, IsAfter, AreSized};
 ghost use Rattle.tp_posindex.specs.BlockState.{IsInfoOf};
 
 use crate::block_info::BlockInfo;
 use crate::blocks::Blocks;
-use crate::elements::Elements;
 use crate::spots::spot_for;
 use std::alloc::{AllocError, Global};
 use std::marker::Model;
+use tp_elements::Elements;
 use tp_list::copy_with_room;
 use tp_opid::{OpId, Place};
 use tp_rga::{Element, Seen, Sequence, Spot, Walk};
 
-/// A sequence whose elements stand in blocks of up to 128, at most 4,294,967,295 of them with the deleted ones.
+/// A sequence whose elements are in blocks of up to 128, at most 4,294,967,295 of them with the deleted ones.
 ///
 /// An insert moves no element, and at most 128 numbers of four bytes; it splits a full block into two of 64. A look-up
 /// by identifier takes as many steps as the logarithms of how many elements its actor has and of how many actors there are.
-/// What goes by position, and where an element stands, passes over four bytes for each 2,048 blocks before it and for up
+/// What goes by position, and where an element is, passes over four bytes for each 2,048 blocks before it and for up
 /// to 144 more, and looks into one block; `len` and `all` pass over nothing.
 pub struct BlockSequence {
     elements: Elements,
@@ -89,7 +89,7 @@ impl BlockSequence {
     /// where no element has it. It takes a look-up, and passes over one block.
     pub fn block_of(&self, id: &OpId) -> Option<usize>
         ensures { MatchOption result
-            (IsNew (joined self.now.blocks) id.now)
+            (IsNew (concat_blocks self.now.blocks) id.now)
             (λ i. (i < length self.now.blocks) × IsThere (block_at self.now.blocks i) id.now) }
     {
         let number = self.elements.number_of(id)?;
@@ -98,13 +98,13 @@ impl BlockSequence {
 }
 
 impl Sequence for BlockSequence {
-    ghost placed = { λ s. joined s.blocks };
+    ghost placed = { λ s. concat_blocks s.blocks };
 
     ghost removals = { λ s. s.removals };
 
     ghost room = { λ s. s.room };
 
-    ghost stands_at = { λ s spot k. IsAfter s.blocks spot.block spot.offset k };
+    ghost present_at = { λ s spot k. IsAfter s.blocks spot.block spot.offset k };
 
     fn new(alloc: Global) -> Self {
         BlockSequence {
@@ -224,15 +224,15 @@ impl Sequence for BlockSequence {
         self.deletes.as_slice()
     }
 
-    /// A copy of each vector as it stands, with room for an eighth more: some 52 bytes for each element, and 54 for each
+    /// A copy of each vector as it is, with room for an eighth more: some 52 bytes for each element, and 54 for each
     /// delete. The blocks are the same, and it is never `None`.
-    fn copied(&self, alloc: Global) -> Result<Option<Self>, AllocError>
+    fn try_copy(&self, alloc: Global) -> Result<Option<Self>, AllocError>
         ensures blocks { IfOk result (λ copy. IfSome copy (λ s. s.blocks ≡ self.now.blocks)) }
         ensures removals { IfOk result (λ copy. IfSome copy (λ s. s.removals ≡ self.now.removals)) }
         ensures given { IfOk result (λ copy. IsSome copy) }
     {
-        let elements = self.elements.copied(alloc)?;
-        let blocks = self.blocks.copied(alloc)?;
+        let elements = self.elements.copy(alloc)?;
+        let blocks = self.blocks.copy(alloc)?;
         let deletes = copy_with_room(alloc, self.deletes.as_slice())?;
         Ok(Some(BlockSequence {
             elements,
@@ -243,7 +243,7 @@ impl Sequence for BlockSequence {
     }
 
     /// The next element of a walk. Only the first of a walk is looked up: then the walk goes on in the block where it
-    /// stands, and from there into the next.
+    /// is, and from there into the next.
     #[inline]
     fn next_element(&self, walk: &mut Walk) -> Option<Seen> {
         match spot_from(&self.blocks, walk) {
@@ -269,7 +269,7 @@ impl Sequence for BlockSequence {
     }
 }
 
-/// Where the next element of a walk stands, or `None` past the end.
+/// Where the next element of a walk is, or `None` past the end.
 fn spot_from(blocks: &Blocks, walk: &Walk) -> Option<Spot>
     requires { IfSome walk.now.spot
         (λ s. IsAfter blocks.now.blocks s.block s.offset walk.now.index) }
@@ -277,7 +277,7 @@ fn spot_from(blocks: &Blocks, walk: &Walk) -> Option<Spot>
         (λ s. (s.block < length blocks.now.blocks)
         × (s.offset < length (block_at blocks.now.blocks s.block))
         × (index_at blocks.now.blocks s.block s.offset ≡ walk.now.index)) }
-    ensures none { IfNone result (length (joined blocks.now.blocks) ≤ walk.now.index) }
+    ensures none { IfNone result (length (concat_blocks blocks.now.blocks) ≤ walk.now.index) }
 {
     match walk.spot {
         Some(spot) => blocks.next_from(spot),

@@ -1,4 +1,4 @@
-//! The elements by number, and the spot where an insert goes.
+//! The spot where an insert goes.
 
 ghost use Rattle.tp_opid.specs.Tree.{CanInsert};
 ghost use Rattle.std.specs.Prelude.{◌≡◌, ℕ, ◌<◌, ◌≤◌, ◌≢◌, List, length, take, insert, map, slice_index_or};
@@ -6,13 +6,12 @@ ghost use Rattle.std.specs.List.{All, AllWithin, HoldsAt};
 ghost use Rattle.tp_opid.specs.Insert.{Insert};
 ghost use Rattle.tp_opid.specs.Order.{Below};
 ghost use Rattle.tp_rga.specs.Order.{EndsAt, IsInserted};
-ghost use Rattle.tp_posindex.specs.Layout.{joined, index_at, IsGap};
-ghost use Rattle.tp_posindex.specs.Blocked.{element_at};
-ghost use Rattle.tp_posindex.specs.Entered.{IsNumberBelow, place_in};
+ghost use Rattle.tp_elements.specs.Came.{element_at};
+ghost use Rattle.tp_elements.specs.Entered.{IsNumberBelow, place_of_reference};
+ghost use Rattle.tp_posindex.specs.Layout.{concat_blocks, index_at, IsGap};
 
 use crate::blocks::Blocks;
-use crate::entries::Entries;
-use crate::entry::Reference;
+use tp_elements::{Entries, Reference};
 use tp_opid::OpId;
 use tp_rga::Spot;
 
@@ -45,13 +44,13 @@ fn past_greater(entries: &Entries, blocks: &Blocks, from: Spot, id: &OpId) -> Sp
     ensures from { index_at blocks.now.blocks from.block from.offset
         ≤ index_at blocks.now.blocks result.block result.offset }
     ensures within { index_at blocks.now.blocks result.block result.offset
-        ≤ length (joined blocks.now.blocks) }
+        ≤ length (concat_blocks blocks.now.blocks) }
     ensures passed { AllWithin
-        (λ k. Below id.now (element_at entries.now.items k).id) (joined blocks.now.blocks)
+        (λ k. Below id.now (element_at entries.now.items k).id) (concat_blocks blocks.now.blocks)
         (index_at blocks.now.blocks from.block from.offset) (index_at blocks.now.blocks result.block result.offset) }
     ensures stops { index_at blocks.now.blocks result.block result.offset
-        < length (joined blocks.now.blocks)
-        → HoldsAt (λ k. ¬ Below id.now (element_at entries.now.items k).id) (joined blocks.now.blocks)
+        < length (concat_blocks blocks.now.blocks)
+        → HoldsAt (λ k. ¬ Below id.now (element_at entries.now.items k).id) (concat_blocks blocks.now.blocks)
         (index_at blocks.now.blocks result.block result.offset) }
 {
     let mut offset = from.offset;
@@ -69,12 +68,12 @@ fn past_greater(entries: &Entries, blocks: &Blocks, from: Spot, id: &OpId) -> Sp
     blocks.end()
 }
 
-/// Right after a reference: at the start, or behind the element with the number.
+/// Right after a reference: at the start, or after the element with the number.
 fn right_after(blocks: &Blocks, reference: Reference) -> Spot
     requires { IsNumberBelow (length blocks.now.flags) reference }
     ensures gap { IsGap blocks.now.blocks result.block result.offset }
     ensures ends { (E : List Insert) → EndsAt (take (index_at blocks.now.blocks result.block result.offset)
-        (map (element_at E) (joined blocks.now.blocks))) (place_in E reference) }
+        (map (element_at E) (concat_blocks blocks.now.blocks))) (place_of_reference E reference) }
 {
     match reference {
         Reference::Start => Spot {
@@ -96,11 +95,11 @@ pub(crate) fn spot_for(entries: &Entries, blocks: &Blocks, id: &OpId, reference:
     requires matched { length blocks.now.flags ≡ length entries.now.items }
     requires reference { IsNumberBelow (length entries.now.items) reference }
     requires can { CanInsert (map (element_at entries.now.items)
-        (joined blocks.now.blocks)) id.now (place_in entries.now.items reference) }
+        (concat_blocks blocks.now.blocks)) id.now (place_of_reference entries.now.items reference) }
     ensures gap { IsGap blocks.now.blocks result.block result.offset }
-    ensures order { (ch : ℕ) → let x : Insert = record { id = id.now; after = place_in entries.now.items reference; ch = ch }
+    ensures order { (ch : ℕ) → let x : Insert = record { id = id.now; after = place_of_reference entries.now.items reference; ch = ch }
         in
-        let placed = map (element_at entries.now.items) (joined blocks.now.blocks) in
+        let placed = map (element_at entries.now.items) (concat_blocks blocks.now.blocks) in
         IsInserted placed (insert placed (index_at blocks.now.blocks result.block result.offset) x) x }
 {
     past_greater(entries, blocks, right_after(blocks, reference), id)

@@ -2,10 +2,10 @@
 use Rattle.std.proofs.Common.{◌≡◌, ◌∙◌, ℕ, List, length, MatchResult, Option, None, Result, Ok, Err, ap, subst, sym}
 use Rattle.std.specs.Prelude.{IfErr, IfOk, IsOkAnd, OnErr, OnOk}
 use Rattle.tp_opid.specs.declared.doc_id.DocId.{DocId}
-use Rattle.tp_change.specs.declared.parts.ChangeParts.{ChangeParts}
-use Rattle.tp_journal.specs.Layout.{journal}
-use Rattle.tp_journal.specs.Whole.{Inspects, Rescues}
-use Rattle.tp_journal.specs.declared.rescuing.WholeRecord.{WholeRecord}
+use Rattle.tp_layout.specs.declared.parts.ChangeParts.{ChangeParts}
+use Rattle.tp_recovery.specs.Layout.{journal}
+use Rattle.tp_recovery.specs.Whole.{Inspects, Rescues}
+use Rattle.tp_recovery.specs.declared.rescuing.WholeRecord.{WholeRecord}
 use Rattle.tp_store.specs.declared.error.StoreError.{StoreError}
 use Rattle.tp_report.specs.Names.{WasMade}
 use Rattle.tp_report.specs.declared.error.JobError.{JobError}

@@ -1,4 +1,4 @@
--- What is told of a refusal, and of what was made.
+-- What is printed of a refusal, and of what was made.
 use Rattle.std.proofs.Common.{inr, Bool, true, ◌≡◌, ◌∙◌, ap, refl, subst, sym, ℕ, List, [], ◌∷◌, length, Result, Ok, Err}
 use Rattle.std.specs.Prelude.{IfOk, MatchResult, OnErr, String}
 use Rattle.std.specs.List.{flat_map}
@@ -17,7 +17,7 @@ pub noted : {Z E : Type 0} (explains : Bool) (s : Subject) (e : JobError) (note 
 noted explains s e (Ok n) printed said quiet text = subst (IsNote explains s e) (sym text) said
 noted explains s e (Err f) printed said quiet text = subst (λ (b : Bool). IsNote b s e printed) (sym quiet) (inr text)
 
--- the lines of changes, of which there are some or none
+-- the lines of changes, where there are some or none
 pub some_made : (hs : List Hash) (lines : List ℕ) → lines ≡ lines_of_made hs → (length hs ≡ 0 → ⊥) → lines ≡ flat_map hash_line hs
 some_made [] lines is some = absurd (some refl)
 some_made (h ∷ hs) lines is some = is

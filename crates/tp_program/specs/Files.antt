@@ -1,8 +1,8 @@
 -- What commands did to files, by what was seen of the disk.
 use Rattle.std.specs.Prelude.{◌≡◌, ◌⊎◌, ℕ, List, codes}
 use Rattle.tp_opid.specs.declared.doc_id.DocId.{DocId}
-use Rattle.tp_change.specs.declared.parts.ChangeParts.{ChangeParts}
-use Rattle.tp_journal.specs.Layout.{journal}
+use Rattle.tp_layout.specs.declared.parts.ChangeParts.{ChangeParts}
+use Rattle.tp_recovery.specs.Layout.{journal}
 use Rattle.tp_peer.specs.Opening.{IsUnused}
 use Rattle.tp_commands.specs.Reading.{Saves}
 use Rattle.tp_store.specs.Saved.{IsSaved}

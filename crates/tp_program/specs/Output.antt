@@ -2,8 +2,8 @@
 use Rattle.std.specs.Prelude.{◌≡◌, ◌⊎◌, ℕ, Bool, true, false, List, [], Option, Some, None}
 use Rattle.std.specs.Io.KnownBytes.{Keeps}
 use Rattle.std.specs.Str.{chars}
-use Rattle.tp_simulate.specs.Script.{IsPrinted as IsScriptPrinted, PrintsPart, StopsAt}
-use Rattle.tp_textpeer.specs.Show.{HasText, line as text_line}
+use Rattle.tp_simulate.specs.Script.{IsScriptOutput as IsScriptPrinted, PrintsPart, StopsAtLine}
+use Rattle.tp_textpeer.specs.Show.{IsLogOfText, utf8_line as text_line}
 use Rattle.tp_commands.specs.Diff.{IsDiff}
 use Rattle.tp_commands.specs.Graph.{IsChangeGraph}
 use Rattle.tp_commands.specs.Log.{AreChangeLines}
@@ -13,11 +13,11 @@ use Rattle.tp_commands.specs.Status.{IsStatus}
 use Rattle.tp_commands.specs.declared.status.Lock.{Lock}
 use Rattle.tp_report.specs.declared.error.JobError.{JobError}
 use Rattle.tp_report.specs.declared.error.JobError.TheVariants.{Command, Line}
-use Rattle.tp_peer.specs.PeerData.{PeerData}
+use Rattle.tp_peer.specs.PeerState.{PeerState}
 use Rattle.tp_session.specs.declared.session.Role.{Role}
 use Rattle.tp_session.specs.declared.session.Role.TheVariants.{Client, Server}
 use Rattle.tp_store.specs.declared.error.StoreError.{StoreError}
-use Rattle.tp_commands.specs.CommandError.{refusal_of_bytes}
+use Rattle.tp_commands.specs.CommandError.{command_refusal_of_bytes}
 use Rattle.tp_command_line.specs.declared.job.FileJob.{FileJob}
 use Rattle.tp_command_line.specs.declared.job.FileJob.TheVariants.{New, Edit, Update, Import, Text, Heads, Log, Graph, Diff, Status, Cursor, Check, Merge, Save, Load, Recover, Show, Simulate}
 use Rattle.tp_command_line.specs.declared.job.Job.{Job}
@@ -27,14 +27,14 @@ use Rattle.tp_disk.specs.Opening.{CutsFile, MayCutFile}
 use Rattle.tp_program.specs.Files.{IsLoaded, OfGiven, OfInserted, RescuesTo, SavesTo}
 use Rattle.tp_program.specs.Lines.{AreImportLines, AreUpdateLines, IsEditLine, IsMergeLine, IsNewLine}
 use Rattle.tp_program.specs.Rescuing.{IsChecked}
-use Rattle.tp_report.specs.JobError.{IsOfOutput, failed}
-use Rattle.tp_report.specs.Telling.{Grows, GrowsPart, Leaves, Reports}
-use Rattle.tp_online.specs.Network.{AreFrames, IsPageShown, IsServed, IsSynced}
+use Rattle.tp_report.specs.JobError.{IsOfOutput, io_failure}
+use Rattle.tp_report.specs.Telling.{GrowsBy, GrowsPart, RefusesPrinting, Reports}
+use Rattle.tp_online.specs.Network.{AreFrames, IsPageShown, IsServeOutput, IsSynced}
 use Rattle.tp_online.specs.Sessions.{HasMet, IsFollowed, ReportsEach}
 
 -- the bytes are the text of a log, and a newline
 abbrev pub IsShown : List ℕ → Type 0
-IsShown printed = (log : List ℕ) × (text : List ℕ) × HasText log text × (printed ≡ text_line text)
+IsShown printed = (log : List ℕ) × (text : List ℕ) × IsLogOfText log text × (printed ≡ text_line text)
 
 -- the bytes are the lines of a journal's newest changes, for people or not
 abbrev pub IsLogPrinted : Bool → ℕ → List ℕ → List ℕ → Type 0
@@ -75,15 +75,15 @@ IsFilesPrinted saw (Simulate script) printed = IsScriptPrinted printed
 -- The bytes are what is printed of the job where it was done: of `serve` the port and how many sessions were held; of `sync`
 -- how many changes entered, by each session where it follows; of `session` the frames of its side; of `web` where the page is, and the
 -- port of sessions beside it.
-abbrev pub IsPrinted : (DiskView → Type 0) → Job → List ℕ → Type 0
-IsPrinted saw (Files job) printed = IsFilesPrinted saw job printed
-IsPrinted saw (Serve file addr sessions workers patience is_verbose key) printed = IsServed sessions printed
-IsPrinted saw (Session file is_client key) printed = AreFrames printed
-IsPrinted saw (Sync file addr patience key) printed = IsSynced printed
-IsPrinted saw (Follow file addr every sessions patience key) printed = IsFollowed saw file.now key sessions printed
-IsPrinted saw (Web file hosting key) printed = IsPageShown hosting printed
+abbrev pub IsJobOutput : (DiskView → Type 0) → Job → List ℕ → Type 0
+IsJobOutput saw (Files job) printed = IsFilesPrinted saw job printed
+IsJobOutput saw (Serve file addr sessions workers patience is_verbose key) printed = IsServeOutput sessions printed
+IsJobOutput saw (Session file is_client key) printed = AreFrames printed
+IsJobOutput saw (Sync file addr patience key) printed = IsSynced printed
+IsJobOutput saw (Follow file addr every sessions patience key) printed = IsFollowed saw file.now key sessions printed
+IsJobOutput saw (Web file hosting key) printed = IsPageShown hosting printed
 
--- What is told of the job beside what is printed, where bytes were cut off the journal that it opened: from which offset on.
+-- What the error stream says of the job, where bytes were cut off the journal that it opened: from which offset on.
 abbrev pub CutsFor : (DiskView → Type 0) → FileJob → Option ℕ → Type 0
 CutsFor saw (Edit file at del text time message key) cut = CutsFile saw file.now cut
 CutsFor saw (Update file source time message key) cut = CutsFile saw file.now cut
@@ -94,7 +94,8 @@ CutsFor saw job cut = cut ≡ None
 abbrev pub MayCutFor : (DiskView → Type 0) → FileJob → Option ℕ → Type 0
 MayCutFor saw job cut = (cut ≡ None) ⊎ CutsFor saw job cut
 
--- the same of each job; a server and a page have said it before they served, and one that follows after each session
+-- what the error stream says of each job in the end, where bytes were cut off: a server and a page have said it before
+-- they served, and one that follows after each session
 abbrev pub CutsForJob : (DiskView → Type 0) → Job → Option ℕ → Type 0
 CutsForJob saw (Files job) cut = CutsFor saw job cut
 CutsForJob saw (Serve file addr sessions workers patience is_verbose key) cut = cut ≡ None
@@ -111,27 +112,27 @@ MayCutForJob saw (Sync file addr patience key) cut = MayCutFile saw file.now cut
 MayCutForJob saw (Follow file addr every sessions patience key) cut = MayCutFile saw file.now cut
 MayCutForJob saw (Web file hosting key) cut = MayCutFile saw file.now cut
 
--- What is told of the job where it was done, beside what is printed: of `session` how many changes entered.
-abbrev pub Tells : Job → Option ℕ → Type 0
-Tells (Files job) told = told ≡ None
-Tells (Serve file addr sessions workers patience is_verbose key) told = told ≡ None
-Tells (Session file is_client key) told = (applied : ℕ) × (told ≡ Some applied)
-Tells (Sync file addr patience key) told = told ≡ None
-Tells (Follow file addr every sessions patience key) told = told ≡ None
-Tells (Web file hosting key) told = told ≡ None
+-- What the error stream says of the job where it was done: of `session` how many changes entered.
+abbrev pub ReportsApplied : Job → Option ℕ → Type 0
+ReportsApplied (Files job) reported = reported ≡ None
+ReportsApplied (Serve file addr sessions workers patience is_verbose key) reported = reported ≡ None
+ReportsApplied (Session file is_client key) reported = (applied : ℕ) × (reported ≡ Some applied)
+ReportsApplied (Sync file addr patience key) reported = reported ≡ None
+ReportsApplied (Follow file addr every sessions patience key) reported = reported ≡ None
+ReportsApplied (Web file hosting key) reported = reported ≡ None
 
 -- the side that a session is held as
 abbrev pub side_of : Bool → Role
 side_of true = Client
 side_of false = Server
 
--- What a session told was held, as the side that was asked for. Of other jobs nothing is said.
+-- The session that is reported was held, as the side that was asked for. Of other jobs nothing is said.
 abbrev pub WasHeld : (DiskView → Type 0) → Job → Option ℕ → Type 0
-WasHeld saw (Session file is_client key) told = (n : ℕ) × (told ≡ Some n) × (p' : PeerData) × HasMet saw file.now key (side_of is_client) n p'
-WasHeld saw job told = Unit {0}
+WasHeld saw (Session file is_client key) reported = (n : ℕ) × (reported ≡ Some n) × (p' : PeerState) × HasMet saw file.now key (side_of is_client) n p'
+WasHeld saw job reported = Unit {0}
 
--- What the error stream holds of what a job tells before it ends: of a server and a page, once they listen, what was cut off; of
--- one that follows the same, after each session.
+-- What the error stream holds of what a job reports before it ends: of a server and a page, once they listen, what was
+-- cut off; of one that follows, what was cut off, after each session.
 abbrev pub ReportsEarly : (DiskView → Type 0) → Job → Option (List ℕ) → Option (List ℕ) → Type 0
 ReportsEarly saw (Serve file addr sessions workers patience is_verbose key) before after =
     (cut : Option ℕ) × MayCutFile saw file.now cut × Reports file.now cut None before after
@@ -143,29 +144,30 @@ ReportsEarly saw job before after = Keeps before after
 
 -- What the output holds after the refusal of a script: where a line is at fault just what is printed of the lines before
 -- it, and else what it held, or a beginning of what a script prints.
-abbrev pub LeavesScript : JobError → Option (List ℕ) → Option (List ℕ) → Type 0
-LeavesScript (Line number) before after = StopsAt number before after
-LeavesScript e before after = Keeps before after ⊎ PrintsPart before after
+abbrev pub RefusesScriptOutput : Option (List ℕ) → JobError → Option (List ℕ) → Type 0
+RefusesScriptOutput before (Line number) after = StopsAtLine number before after
+RefusesScriptOutput before e after = Keeps before after ⊎ PrintsPart before after
 
--- What the output holds after the refusal of a check: as of others; or all that is printed of what stands in the bytes, and
+-- What the output holds after the refusal of a check: as of others; or all that is printed of what is in the bytes, and
 -- the refusal is for what is at fault there.
-abbrev pub LeavesCheck : (DiskView → Type 0) → List ℕ → JobError → Option (List ℕ) → Option (List ℕ) → Type 0
-LeavesCheck saw file e before after = Keeps before after ⊎ ((IsOfOutput e × GrowsPart (λ printed. OfFile saw file (λ bytes. (fault : Option StoreError) × IsChecked bytes fault printed)) before after)
-    ⊎ ((fault : StoreError) × (e ≡ Command (refusal_of_bytes fault)) × Grows (λ printed. OfFile saw file (λ bytes. IsChecked bytes (Some fault) printed)) before after))
+abbrev pub RefusesCheckOutput : (DiskView → Type 0) → List ℕ → Option (List ℕ) → JobError → Option (List ℕ) → Type 0
+RefusesCheckOutput saw file before e after = Keeps before after ⊎ ((IsOfOutput e × GrowsPart (λ printed. OfFile saw file (λ bytes. (fault : Option StoreError) × IsChecked bytes fault printed)) before after)
+    ⊎ ((fault : StoreError) × (e ≡ Command (command_refusal_of_bytes fault)) × GrowsBy (λ printed. OfFile saw file (λ bytes. IsChecked bytes (Some fault) printed)) before after))
 
 -- What the output holds after the refusal of what is done to files. A script is printed as it goes on, all else at the end.
-abbrev pub LeavesFiles : (DiskView → Type 0) → FileJob → JobError → Option (List ℕ) → Option (List ℕ) → Type 0
-LeavesFiles saw (Simulate script) e before after = LeavesScript e before after
-LeavesFiles saw (Check file) e before after = LeavesCheck saw file.now e before after
-LeavesFiles saw job e before after = Leaves (IsFilesPrinted saw job) e before after
+abbrev pub RefusesFilesOutput : (DiskView → Type 0) → FileJob → Option (List ℕ) → JobError → Option (List ℕ) → Type 0
+RefusesFilesOutput saw (Simulate script) before e after = RefusesScriptOutput before e after
+RefusesFilesOutput saw (Check file) before e after = RefusesCheckOutput saw file.now before e after
+RefusesFilesOutput saw job before e after = RefusesPrinting (IsFilesPrinted saw job) before e after
 
 -- What the output holds after the refusal of a job. A server prints its port once it listens, and a page its address. A session has written frames,
--- the last of which may have been cut where the output failed. One that follows has printed what came by sessions before.
-abbrev pub LeavesOf : (DiskView → Type 0) → Job → JobError → Option (List ℕ) → Option (List ℕ) → Type 0
-LeavesOf saw (Files job) e before after = LeavesFiles saw job e before after
-LeavesOf saw (Serve file addr sessions workers patience is_verbose key) e before after = Keeps before after ⊎ GrowsPart (IsServed sessions) before after
-LeavesOf saw (Web file hosting key) e before after = Keeps before after ⊎ GrowsPart (IsPageShown hosting) before after
-LeavesOf saw (Session file is_client key) e before after = Keeps before after ⊎ ((e ≡ failed) ⊎ Grows AreFrames before after)
-LeavesOf saw (Sync file addr patience key) e before after = Leaves IsSynced e before after
-LeavesOf saw (Follow file addr every sessions patience key) e before after =
+-- and the last one may have been cut where the output failed. One that follows has printed what came by sessions
+-- before.
+abbrev pub RefusesOutput : (DiskView → Type 0) → Job → Option (List ℕ) → JobError → Option (List ℕ) → Type 0
+RefusesOutput saw (Files job) before e after = RefusesFilesOutput saw job before e after
+RefusesOutput saw (Serve file addr sessions workers patience is_verbose key) before e after = Keeps before after ⊎ GrowsPart (IsServeOutput sessions) before after
+RefusesOutput saw (Web file hosting key) before e after = Keeps before after ⊎ GrowsPart (IsPageShown hosting) before after
+RefusesOutput saw (Session file is_client key) before e after = Keeps before after ⊎ ((e ≡ io_failure) ⊎ GrowsBy AreFrames before after)
+RefusesOutput saw (Sync file addr patience key) before e after = RefusesPrinting IsSynced before e after
+RefusesOutput saw (Follow file addr every sessions patience key) before e after =
     GrowsPart (λ printed. (held : ℕ) × IsFollowed saw file.now key held printed) before after

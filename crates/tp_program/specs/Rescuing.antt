@@ -3,41 +3,43 @@ use Rattle.std.specs.Prelude.{◌≡◌, ◌<◌, ◌-◌, ◌⊎◌, ℕ, List,
 use Rattle.std.specs.Fmt.{decimal}
 use Rattle.std.specs.List.{flat_map}
 use Rattle.tp_opid.specs.declared.doc_id.DocId.{DocId}
-use Rattle.tp_change.specs.declared.parts.ChangeParts.{ChangeParts}
+use Rattle.tp_layout.specs.declared.parts.ChangeParts.{ChangeParts}
 use Rattle.tp_change.specs.ChangeHash.{hash_of}
-use Rattle.tp_graph.specs.declared.error.GraphError.{GraphError}
-use Rattle.tp_graph.specs.declared.error.GraphError.TheVariants.{Known}
-use Rattle.tp_graph.specs.Fit.{cause}
-use Rattle.tp_graph.specs.Named.{has}
-use Rattle.tp_journal.specs.Layout.{journal}
-use Rattle.tp_journal.specs.Refusals.{IsHeaderFault}
-use Rattle.tp_journal.specs.Whole.{Inspects, Rescues}
-use Rattle.tp_journal.specs.declared.rescuing.WholeRecord.{WholeRecord}
+use Rattle.tp_history.specs.declared.error.GraphError.{GraphError}
+use Rattle.tp_history.specs.declared.error.GraphError.TheVariants.{Known}
+use Rattle.tp_history.specs.Fit.{cause}
+use Rattle.tp_history.specs.Named.{has}
+use Rattle.tp_recovery.specs.Layout.{journal}
+use Rattle.tp_recovery.specs.Refusals.{IsHeaderFault}
+use Rattle.tp_recovery.specs.Whole.{Inspects, Rescues}
+use Rattle.tp_recovery.specs.declared.rescuing.WholeRecord.{WholeRecord}
 use Rattle.tp_store.specs.declared.error.StoreError.{StoreError}
 use Rattle.tp_store.specs.declared.error.StoreError.TheVariants.{Damaged, Refused}
-use Rattle.tp_commands.specs.Reading.{hash_line, line}
+use Rattle.tp_commands.specs.Reading.{hash_line}
 use Rattle.tp_simulate.specs.Names.{name_of_bytes}
+use Rattle.tp_list.specs.Bytes.{line}
 
--- ---- what stands there
+-- ---- what is there
 
 -- the line of why recovering refuses the bytes, and where
 abbrev pub refused_line : Option StoreError → ℕ → List ℕ
 refused_line None at = []
 refused_line (Some e) at = line (codes "refused " ++ name_of_bytes e ++ codes " " ++ decimal at)
 
--- how many changes and bytes recovering keeps, how many bytes and whole records stand behind these, and what is at fault there
+-- how many changes and bytes recovering keeps, how many bytes and whole records are after these, and what is at fault
+-- there
 abbrev pub check_text : ℕ → ℕ → ℕ → ℕ → Option StoreError → List ℕ
-check_text changes keep behind whole fault =
-    codes "changes " ++ decimal changes ++ codes "\nkept " ++ decimal keep ++ codes "\nbehind " ++ decimal behind ++ codes "\nwhole " ++ decimal whole
+check_text changes keep beyond whole fault =
+    codes "changes " ++ decimal changes ++ codes "\nkept " ++ decimal keep ++ codes "\nbehind " ++ decimal beyond ++ codes "\nwhole " ++ decimal whole
     ++ codes "\n" ++ refused_line fault keep
 
--- What is at fault in all: what recovering refuses; or a whole record stands behind what is kept, which would be cut off.
+-- What is at fault in all: what recovering refuses; or a whole record is after what is kept, which would be cut off.
 abbrev pub check_fault : Option StoreError → ℕ → List WholeRecord → Option StoreError
 check_fault (Some e) keep records = Some e
 check_fault None keep [] = None
 check_fault None keep (r ∷ records) = Some (Damaged keep)
 
--- the same of bytes that have a header
+-- what is printed of bytes that have a header, and what is at fault in them
 pub record IsInspected (bytes : List ℕ) (fault : Option StoreError) (printed : List ℕ) : Type 0 where
   pub id : DocId
   pub kept : List ChangeParts
@@ -49,7 +51,7 @@ pub record IsInspected (bytes : List ℕ) (fault : Option StoreError) (printed :
   pub fault_is : fault ≡ check_fault refused keep records
   pub spelled : printed ≡ check_text (length kept) keep (length bytes - keep) (length records) refused
 
--- What is printed is what stands in the bytes, of which this is at fault.
+-- What is printed is what is in the bytes, and the fault is what is wrong with them.
 abbrev pub IsChecked : List ℕ → Option StoreError → List ℕ → Type 0
 IsChecked bytes fault printed = IsInspected bytes fault printed
     ⊎ ((e : StoreError) × IsHeaderFault bytes e × (length bytes < 24) × (fault ≡ Some e) × (printed ≡ check_text 0 0 (length bytes) 0 (Some e)))
@@ -82,8 +84,8 @@ tail_start keep = if keep == 0 then 24 else keep
 abbrev pub rescue_text : List ChangeParts → ℕ → ℕ → List WholeRecord → List ChangeParts → List ℕ
 rescue_text C from to records changes = line (codes "changes " ++ decimal (length C)) ++ lost_lines C from to records ++ flat_map (left_line C) changes
 
--- All that can be had of the bytes makes this journal: what recovering keeps, and behind it the changes of whole records,
--- none of which is left out that fits. What is printed says what came and what didn't.
+-- All that can be had of the bytes makes this journal: what recovering keeps, and after it the changes of whole
+-- records; none of these that fits is left out. What is printed says what came and what didn't.
 pub record IsRescued (bytes after printed : List ℕ) : Type 0 where
   pub id : DocId
   pub kept : List ChangeParts

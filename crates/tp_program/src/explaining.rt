@@ -14,7 +14,7 @@ use std::fmt::Display;
 use std::io;
 use std::io::{ErrorKind, Write};
 use tp_command_line::{LineError, ValueError};
-use tp_report::{DONE, JobError, REFUSED, ended, output_refusal};
+use tp_report::{DONE, JobError, REFUSED, exit_status, output_refusal};
 use tp_textpeer::write_out;
 
 /// The exit status of words that are at fault.
@@ -66,7 +66,7 @@ pub fn explain<W: Write, E: Write>(
         → IsMisuse fault.now × Keeps (W.contents out.old) (W.contents out.new) }
 {
     match fault {
-        LineError::Request(_) => ended(alloc, put_fault(alloc, fault, out), err),
+        LineError::Request(_) => exit_status(alloc, put_fault(alloc, fault, out), err),
         LineError::Fault(_) => {
             let _ = put_fault(alloc, fault, err);
             MISUSED

@@ -6,9 +6,9 @@ ghost use Rattle.clap.specs.Words.{fault_of};
 ghost use Rattle.tp_command_line.specs.Commands.{subject_of, textpeer_app};
 ghost use Rattle.tp_command_line.specs.LineError.{MayBeDone};
 ghost use Rattle.tp_report.specs.declared.error.JobError.{JobError as Refusal};
-ghost use Rattle.tp_program.specs.Output.{CutsForJob, IsPrinted, LeavesOf, MayCutForJob, ReportsEarly, Tells, WasHeld, side_of};
-ghost use Rattle.tp_report.specs.Telling.{Grows, GrowsPart, IsToldOf, Reports};
-ghost use Rattle.tp_program.specs.Words.{IsDone, IsRefused, WasDone, WasRefused, WasUnread, WereAtFault, asks_to_explain, job_words, as_streams};
+ghost use Rattle.tp_program.specs.Output.{CutsForJob, IsJobOutput, RefusesOutput, MayCutForJob, ReportsEarly, ReportsApplied, WasHeld, side_of};
+ghost use Rattle.tp_report.specs.Telling.{GrowsBy, GrowsPart, IsToldOf, Reports};
+ghost use Rattle.tp_program.specs.Words.{IsDone, RefusesJob, WasDone, RefusesHelpOrJob, WasUnread, WereAtFault, asks_to_explain, job_words, as_streams};
 ghost use Rattle.tp_report.specs.Notes.{IsNote};
 
 use crate::explaining::{Errors, MISUSED, explain};
@@ -25,7 +25,7 @@ use tp_command_line::{Job, line};
 use tp_commands::CommandError;
 use tp_disk::Disk;
 use tp_online::{Following, Serving, follow_file, serve_file, session_file, sync_file, web_file};
-use tp_report::{DONE, JobError, REFUSED, Shown, ended, ended_with, note, note_text, report};
+use tp_report::{DONE, JobError, REFUSED, Shown, ended_with, exit_status, note, note_text, report};
 use tp_session::Role;
 
 /// Which of the standard streams are terminals.
@@ -50,7 +50,7 @@ where
 {
     match own_words(rt) {
         Ok(words) => run_words(rt, words.as_slice(), terminals),
-        Err(error) => ended(
+        Err(error) => exit_status(
             rt.alloc(),
             Err(JobError::Command(CommandError::from(error))),
             &mut io::writer(&Errors { rt }),
@@ -82,7 +82,7 @@ fn own_words<R: Env + AllocGlobal>(rt: &R) -> io::Result<Vec<String>> {
     Ok(env::args(rt)?.collect(rt.alloc())?)
 }
 
-/// Does what the words ask for, of which the first is the program's name, and returns the exit status: 0 where it was
+/// Does what the words ask for, where the first is the program's name, and returns the exit status: 0 where it was
 /// done, as for `--help`; 1 where it was refused, with a line on the standard error, as [`JobError`] prints it, and a second
 /// one where something was made whose line couldn't be printed; 2 where the words are at fault, with the parser's text on the
 /// standard error, or the line of an edit with not one text. Where the standard output is a terminal, control characters
@@ -114,8 +114,8 @@ where
     )
 }
 
-/// The same as [`run_words`], with a reader for the standard input, and writers for the standard output and the standard
-/// error.
+/// Does what [`run_words`] does, with a reader for the standard input, and writers for the standard output and the
+/// standard error.
 pub fn run_words_on<
     R: Disk + Net + Threads + Wait + Clock + Eprint + AllocGlobal + Sync,
     S: AsStr,
@@ -128,18 +128,18 @@ where
     R::Listener: Sync,
     R::Stream: Send,
     ensures status { result ≤ MISUSED }
-    // What was done prints nothing on the standard error, but for what is told of it.
-    ensures done { result ≡ DONE → (file : List ℕ) × (cut : Option ℕ) × (told : Option ℕ)
-        × (mid : Option (List ℕ)) × Reports file cut told mid (E.contents err.new)
-        × WasDone (R.saw rt.now) (map S.text words.now) file cut told
+    // What was done prints nothing on the standard error, but for what is reported of it.
+    ensures done { result ≡ DONE → (file : List ℕ) × (cut : Option ℕ) × (reported : Option ℕ)
+        × (mid : Option (List ℕ)) × Reports file cut reported mid (E.contents err.new)
+        × WasDone (R.saw rt.now) (map S.text words.now) file cut reported
         (as_streams (E.contents err.old) mid (W.contents out.old) (W.contents out.new)) }
-    // What is told of what was refused stands there, or a beginning of it.
+    // What is reported of what was refused is there, or a beginning of it.
     ensures refused { result ≡ REFUSED → WasUnread (map S.text words.now) explains
         (E.contents err.old) (E.contents err.new) (W.contents out.old) (W.contents out.new)
         ⊎ ((note : List ℕ) × (file : List ℕ) × (cut : Option ℕ) × (e : Refusal)
         × (mid : Option (List ℕ))
         × GrowsPart (IsToldOf note file cut e) mid (E.contents err.new)
-        × WasRefused (R.saw rt.now) (map S.text words.now) explains note file cut e
+        × RefusesHelpOrJob (R.saw rt.now) (map S.text words.now) explains note file cut e
         (as_streams (E.contents err.old) mid (W.contents out.old) (W.contents out.new))) }
     // Words at fault print nothing on the standard output.
     ensures misused { result ≡ MISUSED → WereAtFault (map S.text words.now)
@@ -166,22 +166,22 @@ where
     R::Listener: Sync,
     R::Stream: Send,
     ensures status { result ≤ REFUSED }
-    ensures done { result ≡ DONE → (cut : Option ℕ) × (told : Option ℕ)
+    ensures done { result ≡ DONE → (cut : Option ℕ) × (reported : Option ℕ)
         × (mid : Option (List ℕ))
-        × Reports (subject_of job.entry).file.now cut told mid (E.contents err.new)
-        × IsDone (R.saw rt.now) job.entry cut told
+        × Reports (subject_of job.entry).file.now cut reported mid (E.contents err.new)
+        × IsDone (R.saw rt.now) job.entry cut reported
         (as_streams (E.contents err.old) mid (W.contents out.old) (W.contents out.new)) }
     ensures refused { result ≡ REFUSED → (note : List ℕ) × (cut : Option ℕ) × (e : Refusal)
         × (mid : Option (List ℕ)) × IsNote explains (subject_of job.entry) e note
         × GrowsPart (IsToldOf note (subject_of job.entry).file.now cut e) mid (E.contents err.new)
-        × IsRefused (R.saw rt.now) job.entry cut e
+        × RefusesJob (R.saw rt.now) job.entry cut e
         (as_streams (E.contents err.old) mid (W.contents out.old) (W.contents out.new)) }
 {
     let subject = job.subject();
     let mut cut = None;
-    match carried(rt, job, input, out, err, &mut cut) {
-        Ok(told) => {
-            report(rt.alloc(), subject.file, cut, told, err);
+    match do_job(rt, job, input, out, err, &mut cut) {
+        Ok(reported) => {
+            report(rt.alloc(), subject.file, cut, reported, err);
             DONE
         }
         Err(error) => {
@@ -191,9 +191,9 @@ where
     }
 }
 
-// Does a job, and writes what is printed of it. What is told of it beside that. A session is held as the side that was asked
-// for.
-fn carried<
+// Does a job, and writes what is printed of it. Answers what is reported of it beside that. A session is held as the
+// side that was asked for.
+fn do_job<
     R: Disk + Net + Threads + Wait + Clock + Eprint + AllocGlobal + Sync,
     I: Read,
     W: Write,
@@ -217,16 +217,16 @@ where
         (MayCutForJob (R.saw rt.now) job.entry cut.new) }
     ensures early { ReportsEarly (R.saw rt.now) job.entry
         (E.contents err.old) (E.contents err.new) }
-    ensures tells { IfOk result (Tells job.entry) }
+    ensures tells { IfOk result (ReportsApplied job.entry) }
     ensures held { IfOk result (WasHeld (R.saw rt.now) job.entry) }
     ensures prints { OnOk result
-        (Grows (IsPrinted (R.saw rt.now) job.entry)
+        (GrowsBy (IsJobOutput (R.saw rt.now) job.entry)
         (W.contents out.old) (W.contents out.new)) }
-    ensures err { IfErr result (λ e. LeavesOf (R.saw rt.now) job.entry e
-        (W.contents out.old) (W.contents out.new)) }
+    ensures err { IfErr result (λ e. RefusesOutput (R.saw rt.now) job.entry (W.contents out.old)
+        e (W.contents out.new)) }
 {
     match job {
-        Job::Files(job) => done(carry_out(rt, job, input, out, cut)),
+        Job::Files(job) => without_value(carry_out(rt, job, input, out, cut)),
         Job::Serve {
             file,
             addr,
@@ -242,7 +242,7 @@ where
                 patience: patience_of(patience),
                 is_verbose,
             };
-            done(serve_file(rt, file, addr, &how, key, out, err, cut))
+            without_value(serve_file(rt, file, addr, &how, key, out, err, cut))
         }
         Job::Session {
             file,
@@ -274,13 +274,15 @@ where
                 every: Duration::from_secs(every),
                 patience: patience_of(patience),
             };
-            done(follow_file(rt, file, &how, sessions, key, out, err, cut))
+            without_value(follow_file(rt, file, &how, sessions, key, out, err, cut))
         }
-        Job::Web { file, hosting, key } => done(web_file(rt, file, hosting, key, out, err, cut)),
+        Job::Web { file, hosting, key } => without_value(web_file(
+            rt, file, hosting, key, out, err, cut,
+        )),
     }
 }
 
-// The patience of so many seconds; of none it is without a bound.
+// The patience of `seconds`; where they are 0 it has no bound.
 fn patience_of(seconds: u64) -> Option<Duration> {
     match seconds {
         0 => None,
@@ -300,7 +302,7 @@ fn role_of(is_client: bool) -> Role
 }
 
 // Whether it was done, without what it gave back.
-fn done<T: Drop>(outcome: Result<T, JobError>) -> Result<Option<u64>, JobError>
+fn without_value<T: Drop>(outcome: Result<T, JobError>) -> Result<Option<u64>, JobError>
     ensures { MatchResult outcome (λ _. result ≡ Ok None) (λ e. result ≡ Err e) }
 {
     match outcome {

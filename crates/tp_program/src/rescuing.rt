@@ -3,10 +3,10 @@
 ghost use Rattle.std.specs.Prelude.{◌≡◌, ◌++◌, List, codes, IfOk, OnOk};
 ghost use Rattle.std.specs.List.{flat_map};
 ghost use Rattle.std.specs.String.{string_bytes};
-ghost use Rattle.tp_change.specs.declared.parts.ChangeParts.{ChangeParts};
+ghost use Rattle.tp_layout.specs.declared.parts.ChangeParts.{ChangeParts};
 ghost use Rattle.tp_commands.specs.Reading.{hash_line as line_of_hash};
-ghost use Rattle.tp_journal.specs.Layout.{journal};
-ghost use Rattle.tp_journal.specs.Whole.{Rescues};
+ghost use Rattle.tp_recovery.specs.Layout.{journal};
+ghost use Rattle.tp_recovery.specs.Whole.{Rescues};
 ghost use Rattle.tp_simulate.specs.Names.{name_of_bytes};
 ghost use Rattle.tp_store.specs.declared.error.StoreError.TheVariants.{Refused};
 ghost use Rattle.tp_program.specs.Rescuing.{IsChecked, IsRescued, check_text as text_of_check, check_fault as fault_in, left_line as line_of_left, lost_line as line_of_lost, lost_lines as lines_of_lost, refused_line as line_of_refused, rescue_text as text_of_rescue, tail_start as start_of_tail};
@@ -15,7 +15,7 @@ use std::alloc::Global;
 use tp_change::Change;
 use tp_commands::{CommandError, hash_line};
 use tp_document::Document;
-use tp_graph::GraphError;
+use tp_graph::{Graph, GraphError};
 use tp_journal::{HEADER_BYTES, Inspection, MemJournal, WholeRecord, inspect, rescue};
 use tp_opid::Hash;
 use tp_peer::{PeerSequence, create_journal};
@@ -32,21 +32,21 @@ fn refused_line(alloc: Global, fault: Option<StoreError>, at: u64) -> Result<Str
     }
 }
 
-// What is printed of what stands in the bytes.
+// What is printed of what is in the bytes.
 fn check_text(
     alloc: Global,
     changes: usize,
     keep: u64,
-    behind: u64,
+    beyond: u64,
     whole: usize,
     fault: Option<StoreError>,
 ) -> Result<String, CommandError>
     ensures { IfOk result
-        (λ t. string_bytes t ≡ text_of_check changes keep behind whole fault) }
+        (λ t. string_bytes t ≡ text_of_check changes keep beyond whole fault) }
 {
     let refused = refused_line(alloc, fault, keep)?;
     Ok(format!(in alloc;
-        "changes {changes}\nkept {keep}\nbehind {behind}\nwhole {whole}\n{refused}"
+        "changes {changes}\nkept {keep}\nbehind {beyond}\nwhole {whole}\n{refused}"
     )?)
 }
 
@@ -66,7 +66,7 @@ fn check_fault(fault: Option<StoreError>, keep: u64, records: &[WholeRecord]) ->
     }
 }
 
-/// What is printed of what stands in the bytes of a journal, and what is at fault there. The only refusal is `OutOfMemory`.
+/// What is printed of what is in the bytes of a journal, and what is at fault there. The only refusal is `OutOfMemory`.
 pub(crate) fn check_report(
     alloc: Global,
     bytes: &[u8],
@@ -75,12 +75,12 @@ pub(crate) fn check_report(
 {
     match inspect::<PeerSequence>(alloc, bytes) {
         Ok(found) => {
-            let behind = (bytes.len() as u64).saturating_sub(found.keep);
+            let beyond = (bytes.len() as u64).saturating_sub(found.keep);
             let text = check_text(
                 alloc,
                 found.document.changes().len(),
                 found.keep,
-                behind,
+                beyond,
                 found.records.len(),
                 found.fault,
             );
@@ -120,14 +120,14 @@ fn lost_lines(
         ≡ lines_of_lost document.now.applied from to records.now) }
 {
     let mut lines = String::new(alloc);
-    let mut behind = from;
+    let mut beyond = from;
     for record in records {
         if document.contains(&record.hash) {
-            lines = put_lost(alloc, lines, behind, record.at)?;
-            behind = record.end;
+            lines = put_lost(alloc, lines, beyond, record.at)?;
+            beyond = record.end;
         }
     }
-    put_lost(alloc, lines, behind, to)
+    put_lost(alloc, lines, beyond, to)
 }
 
 // The line of a change that was left out for this cause.
@@ -140,17 +140,13 @@ fn left_line(alloc: Global, error: GraphError, hash: &Hash) -> Result<String, Co
 }
 
 // The lines of the changes that were left out.
-fn left_lines(
-    alloc: Global,
-    document: &Document<PeerSequence>,
-    changes: &[Change],
-) -> Result<String, CommandError>
+fn left_lines(alloc: Global, graph: &Graph, changes: &[Change]) -> Result<String, CommandError>
     ensures { IfOk result (λ l. string_bytes l
-        ≡ flat_map (line_of_left document.now.applied) changes.now) }
+        ≡ flat_map (line_of_left graph.now.applied) changes.now) }
 {
     let mut lines = String::new(alloc);
     for change in changes {
-        match document.check(change) {
+        match graph.check(change) {
             Ok(()) | Err(GraphError::Known) => {}
             Err(GraphError::OutOfMemory) => return Err(CommandError::OutOfMemory),
             Err(error) => lines.push_str(left_line(alloc, error, &change.hash())?.as_str())?,
@@ -174,7 +170,7 @@ fn rescue_text(
     let count = document.changes().len();
     let mut text = format!(in alloc; "changes {count}\n")?;
     text.push_str(lost_lines(alloc, document, from, to, records)?.as_str())?;
-    text.push_str(left_lines(alloc, document, changes)?.as_str())?;
+    text.push_str(left_lines(alloc, document.graph(), changes)?.as_str())?;
     Ok(text)
 }
 
@@ -195,7 +191,7 @@ fn journal_with(
     Ok(made.into_vec())
 }
 
-// The journal of what was kept and all that fits behind it, and what is printed of that.
+// The journal of what was kept and all that fits after it, and what is printed of that.
 fn journal_and_report(
     alloc: Global,
     mut document: Document<PeerSequence>,

@@ -14,20 +14,20 @@ ghost use Rattle.tp_disk.specs.DiskView.{ChangesFile, OfFile};
 ghost use Rattle.tp_disk.specs.Opening.{CutsFile, MayCutFile};
 ghost use Rattle.tp_program.specs.Lines.{IsEditLine, IsMergeLine, IsNewLine, made_line as line_of_made};
 ghost use Rattle.tp_report.specs.Names.{WasMade, output_of_made};
-ghost use Rattle.tp_program.specs.Output.{CutsFor, IsFilesPrinted, IsLogPrinted, IsShown, LeavesCheck, LeavesFiles, LeavesScript, MayCutFor};
-ghost use Rattle.tp_report.specs.Telling.{Grows, Leaves};
+ghost use Rattle.tp_program.specs.Output.{CutsFor, IsFilesPrinted, IsLogPrinted, IsShown, RefusesCheckOutput, RefusesFilesOutput, RefusesScriptOutput, MayCutFor};
+ghost use Rattle.tp_report.specs.Telling.{GrowsBy, RefusesPrinting};
 ghost use Rattle.tp_program.specs.Rescuing.{IsChecked};
 ghost use Rattle.tp_report.specs.JobError.{IsAllSaid};
 
 use crate::rescuing::{check_report, rescue_report};
-use crate::texts::{given, import_text, update_text};
+use crate::texts::{import_text, read_input, update_text};
 use std::alloc::Global;
 use std::io::{BufReader, Read, Write};
 use tp_command_line::{FileJob, Inserted};
 use tp_commands::{
     CommandError, begin, cursor_line, diff_lines, edit, graph_lines, hash_line, head_lines,
-    id_line, log_lines, merge, pretty_lines, raw_text, reopen, saved, status_lines, text_in_file,
-    text_line,
+    id_line, log_lines, merge, pretty_lines, raw_text, reopen, saved_file, status_lines,
+    text_in_file, text_line,
 };
 use tp_disk::{Disk, Opened, draw, draw_actor, generator, put_new, replace};
 use tp_document::Document;
@@ -39,7 +39,7 @@ use tp_simulate::simulate;
 use tp_store::load;
 use tp_textpeer::show;
 
-/// Does what is to be done to files, of which the path `-` of a text names `input`, and writes what is printed of it to
+/// Does what is to be done to files, where the path `-` of a text names `input`, and writes what is printed of it to
 /// `out`, which is flushed. A refusal writes nothing
 /// to `out`; where `out` itself failed, which is refused as `Io`, or was closed by who read it, it has taken a beginning of
 /// what is printed; the refusal has what a job made whose lines these were. A script is printed line by line as it goes on, and
@@ -57,11 +57,11 @@ pub fn carry_out<D: Disk + AllocGlobal, I: Read, W: Write>(
     ensures may_cut { OnErr result
         (MayCutFor (D.saw rt.now) job.entry cut.new) }
     ensures prints { OnOk result
-        (Grows (IsFilesPrinted (D.saw rt.now) job.entry)
+        (GrowsBy (IsFilesPrinted (D.saw rt.now) job.entry)
         (W.contents out.old) (W.contents out.new)) }
     ensures err { IfErr result
-        (λ e. LeavesFiles (D.saw rt.now) job.entry e
-        (W.contents out.old) (W.contents out.new)) }
+        (λ e. RefusesFilesOutput (D.saw rt.now) job.entry (W.contents out.old)
+        e (W.contents out.new)) }
     ensures unsaid { IfErr result
         (WasMade (IsFilesPrinted (D.saw rt.now) job.entry)) }
 {
@@ -114,7 +114,7 @@ pub fn carry_out<D: Disk + AllocGlobal, I: Read, W: Write>(
         FileJob::Status { file } => put(out, status(rt, file)),
         FileJob::Cursor { file, at, heads } => put(out, cursor(rt, file, at as usize, &heads)),
         FileJob::Check { file } => check_file(rt, file, out),
-        FileJob::Merge { file, other, key } => put(out, merged(rt, file, other, key, cut)),
+        FileJob::Merge { file, other, key } => put(out, merge_files(rt, file, other, key, cut)),
         FileJob::Save { file, out: path } => put(out, save_to(rt, file, path)),
         FileJob::Load { saved, file } => put(out, load_from(rt, saved, file)),
         FileJob::Recover { file, out: path } => put(out, recover_to(rt, file, path)),
@@ -138,8 +138,8 @@ fn show_file<D: Disk + AllocGlobal, W: Write>(
     log: &str,
     out: &mut W,
 ) -> Result<(), JobError>
-    ensures ok { OnOk result (Grows IsShown (W.contents out.old) (W.contents out.new)) }
-    ensures err { IfErr result (λ e. Leaves IsShown e (W.contents out.old) (W.contents out.new)) }
+    ensures ok { OnOk result (GrowsBy IsShown (W.contents out.old) (W.contents out.new)) }
+    ensures err { IfErr result (λ e. RefusesPrinting IsShown (W.contents out.old) e (W.contents out.new)) }
     ensures said { IfErr result IsAllSaid }
 {
     let mut reader = reader_of(rt, log)?;
@@ -157,7 +157,7 @@ fn simulate_file<D: Disk + AllocGlobal, W: Write>(
 ) -> Result<(), JobError>
     ensures ok { OnOk result (Prints (W.contents out.old) (W.contents out.new)) }
     ensures err { IfErr result
-        (λ e. LeavesScript e (W.contents out.old) (W.contents out.new)) }
+        (λ e. RefusesScriptOutput (W.contents out.old) e (W.contents out.new)) }
     ensures said { IfErr result IsAllSaid }
 {
     let mut reader = reader_of(rt, script)?;
@@ -293,17 +293,17 @@ fn edited_by<D: Disk + AllocGlobal, I: Read>(
     let (at, del) = place;
     match text {
         Inserted::Given(text) => {
-            edited(rt, file, Splice { at, del, text }, time, message, key, cut)
+            edit_file(rt, file, Splice { at, del, text }, time, message, key, cut)
         }
         Inserted::InFile(path) => {
-            let bytes = given(rt, path, input)?;
+            let bytes = read_input(rt, path, input)?;
             let text = text_in_file(&bytes)?;
-            edited(rt, file, Splice { at, del, text }, time, message, key, cut)
+            edit_file(rt, file, Splice { at, del, text }, time, message, key, cut)
         }
     }
 }
 
-fn edited<D: Disk + AllocGlobal>(
+fn edit_file<D: Disk + AllocGlobal>(
     rt: &D,
     file: &str,
     splice: Splice,
@@ -347,7 +347,7 @@ fn made_line(alloc: Global, made: Option<Hash>) -> Result<(String, Option<Made>)
     }
 }
 
-fn merged<D: Disk + AllocGlobal>(
+fn merge_files<D: Disk + AllocGlobal>(
     rt: &D,
     file: &str,
     other: &str,
@@ -390,22 +390,22 @@ fn save_to<D: Disk + AllocGlobal>(rt: &D, file: &str, out: &str) -> Result<Strin
     ensures saved { OnOk result (OfFile (D.saw rt.now) file.now
         (λ journal. SavesTo (D.saw rt.now) out.now journal)) }
 {
-    let bytes = saved(rt.alloc(), rt.recover(file)?)?;
+    let bytes = saved_file(rt.alloc(), rt.recover(file)?)?;
     replace(rt, out, file, &bytes)?;
     Ok(String::new(rt.alloc()))
 }
 
-// Writes what stands in the journal at a path. It is refused for what is at fault there, once that is written.
+// Writes what is in the journal at a path. It is refused for what is at fault there, once that is written.
 fn check_file<D: Disk + AllocGlobal, W: Write>(
     rt: &D,
     file: &str,
     out: &mut W,
 ) -> Result<(), JobError>
     ensures ok { OnOk result
-        (Grows (λ printed. OfFile (D.saw rt.now) file.now
+        (GrowsBy (λ printed. OfFile (D.saw rt.now) file.now
         (λ bytes. IsChecked bytes None printed)) (W.contents out.old) (W.contents out.new)) }
-    ensures err { IfErr result (λ e. LeavesCheck (D.saw rt.now) file.now e
-        (W.contents out.old) (W.contents out.new)) }
+    ensures err { IfErr result (λ e. RefusesCheckOutput (D.saw rt.now) file.now (W.contents out.old)
+        e (W.contents out.new)) }
     ensures said { IfErr result IsAllSaid }
 {
     let bytes = rt.read(file)?;

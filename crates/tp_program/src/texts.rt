@@ -19,7 +19,7 @@ use tp_peer::PeerError;
 use tp_report::Made;
 
 /// The bytes of the file at a path, or of the standard input, which the path `-` names.
-pub(crate) fn given<D: Disk + AllocGlobal, I: Read>(
+pub(crate) fn read_input<D: Disk + AllocGlobal, I: Read>(
     rt: &D,
     path: &str,
     input: &mut I,
@@ -57,7 +57,7 @@ pub(crate) fn update_text<D: Disk + AllocGlobal, I: Read>(
         (λ p. IfSome p.1 (λ made. string_bytes p.0 ≡ output_of_made made)) }
     ensures nothing { IfOk result (λ p. p.1 ≡ None → string_bytes p.0 ≡ lines_of_made []) }
 {
-    let bytes = given(rt, source, input)?;
+    let bytes = read_input(rt, source, input)?;
     let text = text_in_file(&bytes)?;
     let actor = draw_actor(rt, key)?;
     let Opened {
@@ -96,7 +96,7 @@ pub(crate) fn import_text<D: Disk + AllocGlobal, I: Read>(
         (λ p. IfSome p.1 (λ made. string_bytes p.0 ≡ output_of_made made)) }
     ensures nothing { IfOk result (λ p. p.1 ≡ None → string_bytes p.0 ≡ lines_of_made []) }
 {
-    let bytes = given(rt, source, input)?;
+    let bytes = read_input(rt, source, input)?;
     let text = text_in_file(&bytes)?;
     let mut generator = generator(rt, key)?;
     let Actor(drawn) = draw(&mut generator);

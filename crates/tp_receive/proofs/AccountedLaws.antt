@@ -43,7 +43,7 @@ out_reported C t r d x e (inl h) = inl (record {
 })
 out_reported C t r d x e (inr i) = inr (In-left (hash_of d, MissingDeps) r ((hash_of x, e) ∷ []) i)
 
--- One that had its turn: so it is behind each later turn.
+-- One that had its turn: so it did after each later turn.
 pub HadTurn-turn : {S : Type 0} (keeps : S → ChangeParts → S → Type 0) (d : ChangeParts) (s t : Intake S) → Turn keeps s t → HadTurn s d → HadTurn t d
 HadTurn-turn {S} keeps d s t u h =
     Turn-cases keeps (λ (t : Intake S). HadTurn t d) s t

@@ -1,5 +1,5 @@
 -- Two whole runs from one beginning end alike, whatever keeps.
-use Rattle.tp_receive.proofs.Common.{◌≡◌, ℕ, zero, suc, ◌+◌, inl, inr, List, [], ◌∷◌, ◌++◌, length, Bool, true, false, cond, Option, Some, None, refl, sym, ap, ◌∙◌, subst, nat_lt, In-right, never, In, Hash, ChangeParts, hash_of, GraphError, MissingDeps, has, cause, most_waiting, AllWait, lacks_deps, is_refusal, slots, Intake, Meets, Next, Run, Turn, hold, intake, refuse, Ends, NextWaits, Turns, Alike}
+use Rattle.tp_receive.proofs.Common.{◌≡◌, ℕ, zero, suc, ◌+◌, inl, inr, List, [], ◌∷◌, ◌++◌, length, Bool, true, false, cond, Option, Some, None, refl, sym, ap, ◌∙◌, subst, nat_lt, In-right, never, In, Hash, ChangeParts, hash_of, GraphError, MissingDeps, has, cause, most_waiting, AllWait, lacks_deps, is_refusal, slots, Intake, DecidesChange, NextChange, SomeTurns, Turn, hold, intake, refuse, IsIntakeDone, NextWaits, Turns, Alike}
 
 -- ---- one next
 
@@ -25,17 +25,17 @@ one_comes c d p q P Q e = let first : pair_of c p ≡ pair_of d q = cc in (ap (�
 -- a change that lacks nothing is none of those that all wait
 none_ready : {S : Type 0} (s : Intake S) (C W : List ChangeParts) (c : ChangeParts) (rest : Intake S) → NextWaits s c rest → C ≡ s.applied → W ≡ s.waiting → AllWait C W → ⊥
 none_ready s C W c rest n a w settled =
-    never (subst (λ (D : List ChangeParts). lacks_deps (cause D c) ≡ true) a (settled c (subst (In c) (sym (w ∙ n.waits)) (In-right c n.before (c ∷ n.behind) (inl refl))))) n.ready
+    never (subst (λ (D : List ChangeParts). lacks_deps (cause D c) ≡ true) a (settled c (subst (In c) (sym (w ∙ n.waits)) (In-right c n.before (c ∷ n.beyond) (inl refl))))) n.ready
 
-next_alike : {S R : Type 0} (s rest : Intake S) (t last : Intake R) (c d : ChangeParts) → Alike s t → Next s c rest → Next t d last → (c ≡ d) × Alike rest last
+next_alike : {S R : Type 0} (s rest : Intake S) (t last : Intake R) (c d : ChangeParts) → Alike s t → NextChange s c rest → NextChange t d last → (c ≡ d) × Alike rest last
 next_alike s rest t last c d h (inl n) (inl m) =
-    let w = first_ready s.applied n.before n.behind m.before m.behind c d n.earliest (subst (λ (C : List ChangeParts). AllWait C m.before) (sym h.applied) m.earliest) n.ready
+    let w = first_ready s.applied n.before n.beyond m.before m.beyond c d n.earliest (subst (λ (C : List ChangeParts). AllWait C m.before) (sym h.applied) m.earliest) n.ready
     (subst (λ (C : List ChangeParts). lacks_deps (cause C d) ≡ false) (sym h.applied) m.ready) (sym n.waits ∙ h.waiting ∙ m.waits) in
     (w.0, rw (n.without, m.without) (record { applied = h.applied; waiting = w.1; coming = h.coming; entered = h.entered; refused = h.refused }))
 next_alike s rest t last c d h (inl n) (inr m) = absurd (none_ready s t.applied t.waiting c rest n (sym h.applied) (sym h.waiting) m.settled)
 next_alike s rest t last c d h (inr n) (inl m) = absurd (none_ready t s.applied s.waiting d last m h.applied h.waiting n.settled)
 next_alike s rest t last c d h (inr n) (inr m) =
-    let w = one_comes c d n.slot m.slot n.behind m.behind (sym n.comes ∙ h.coming ∙ m.comes) in
+    let w = one_comes c d n.slot m.slot n.beyond m.beyond (sym n.comes ∙ h.coming ∙ m.comes) in
     (w.0, rw (n.without, m.without) (record { applied = h.applied; waiting = h.waiting; coming = w.1; entered = h.entered; refused = h.refused }))
 
 -- ---- one outcome of a turn
@@ -58,7 +58,7 @@ none_some n s = let no : None ≡ Some _ = sym n ∙ s in cc
 lacks_refused : {A : Type 0} {o : Option GraphError} {e : GraphError} → o ≡ Some MissingDeps → o ≡ Some e → is_refusal (Some e) ≡ true → A
 lacks_refused m s final = let no : false ≡ true = ap is_refusal (sym m ∙ s) ∙ final in cc
 
-meets_alike : {S R : Type 0} (keeps : S → ChangeParts → S → Type 0) (stores : R → ChangeParts → R → Type 0) (s x : Intake S) (t y : Intake R) (c : ChangeParts) → Alike s t → Meets keeps s c x → Meets stores t c y → Alike x y
+meets_alike : {S R : Type 0} (keeps : S → ChangeParts → S → Type 0) (stores : R → ChangeParts → R → Type 0) (s x : Intake S) (t y : Intake R) (c : ChangeParts) → Alike s t → DecidesChange keeps s c x → DecidesChange stores t c y → Alike x y
 meets_alike keeps stores s x t y c h (inl m) (inl n) = rw (m.3, n.3) (record {
   applied = ap (λ (l : List ChangeParts). l ++ c ∷ []) h.applied;
   waiting = h.waiting;
@@ -87,27 +87,27 @@ meets_alike keeps stores s x t y c h (inr (inr m)) (inr (inr n)) =
 turn_alike : {S R : Type 0} (keeps : S → ChangeParts → S → Type 0) (stores : R → ChangeParts → R → Type 0) (s x : Intake S) (t y : Intake R) → Alike s t → Turn keeps s x → Turn stores t y → Alike x y
 turn_alike {S} {R} keeps stores s x t y h u v =
     let w = next_alike s u.rest t v.rest u.change v.change h u.next v.next in
-    meets_alike keeps stores u.rest x v.rest y u.change w.1 u.meets (subst (λ (d : ChangeParts). Meets stores v.rest d y) (sym w.0) v.meets)
+    meets_alike keeps stores u.rest x v.rest y u.change w.1 u.meets (subst (λ (d : ChangeParts). DecidesChange stores v.rest d y) (sym w.0) v.meets)
 
 -- ---- one end
 
 -- Where one has ended, the other has no turn.
-no_turn : {S R : Type 0} (stores : R → ChangeParts → R → Type 0) (s : Intake S) (t y : Intake R) → Alike s t → Ends s → Turn stores t y → ⊥
+no_turn : {S R : Type 0} (stores : R → ChangeParts → R → Type 0) (s : Intake S) (t y : Intake R) → Alike s t → IsIntakeDone s → Turn stores t y → ⊥
 no_turn stores s t y h e u = elim u.next [
   | inl n ↦ none_ready t s.applied s.waiting u.change u.rest n h.applied h.waiting e.settled
-  | inr n ↦ let no : [] ≡ (u.change, n.slot) ∷ n.behind = sym e.came ∙ h.coming ∙ n.comes in cc
+  | inr n ↦ let no : [] ≡ (u.change, n.slot) ∷ n.beyond = sym e.came ∙ h.coming ∙ n.comes in cc
 ]
 
 Alike-sym : {S R : Type 0} (s : Intake S) (t : Intake R) → Alike s t → Alike t s
 Alike-sym s t h = record { applied = sym h.applied; waiting = sym h.waiting; coming = sym h.coming; entered = sym h.entered; refused = sym h.refused }
 
 turns_alike : {S R : Type 0} (keeps : S → ChangeParts → S → Type 0) (stores : R → ChangeParts → R → Type 0) (n m : ℕ) (s x : Intake S) (t y : Intake R)
-    → Alike s t → Turns keeps n s x → Turns stores m t y → Ends x → Ends y → Alike x y
+    → Alike s t → Turns keeps n s x → Turns stores m t y → IsIntakeDone x → IsIntakeDone y → Alike x y
 turns_alike {S} {R} keeps stores zero zero s x t y h a b e f = subst (λ (u : Intake S). Alike u y) a (subst (λ (u : Intake R). Alike s u) b h)
-turns_alike {S} {R} keeps stores zero (suc m) s x t y h a b e f = absurd (no_turn stores s t b.0 h (subst Ends (sym a) e) b.1)
-turns_alike {S} {R} keeps stores (suc n) zero s x t y h a b e f = absurd (no_turn keeps t s a.0 (Alike-sym s t h) (subst Ends (sym b) f) a.1)
+turns_alike {S} {R} keeps stores zero (suc m) s x t y h a b e f = absurd (no_turn stores s t b.0 h (subst IsIntakeDone (sym a) e) b.1)
+turns_alike {S} {R} keeps stores (suc n) zero s x t y h a b e f = absurd (no_turn keeps t s a.0 (Alike-sym s t h) (subst IsIntakeDone (sym b) f) a.1)
 turns_alike {S} {R} keeps stores (suc n) (suc m) s x t y h a b e f = turns_alike keeps stores n m a.0 x b.0 y (turn_alike keeps stores s a.0 t b.0 h a.1 b.1) a.2 b.2 e f
 
 -- Two whole runs from one beginning end alike.
-pub one_outcome : {S R : Type 0} (keeps : S → ChangeParts → S → Type 0) (stores : R → ChangeParts → R → Type 0) (s x : Intake S) (t y : Intake R) → Alike s t → Run keeps s x → Run stores t y → Ends x → Ends y → Alike x y
+pub one_outcome : {S R : Type 0} (keeps : S → ChangeParts → S → Type 0) (stores : R → ChangeParts → R → Type 0) (s x : Intake S) (t y : Intake R) → Alike s t → SomeTurns keeps s x → SomeTurns stores t y → IsIntakeDone x → IsIntakeDone y → Alike x y
 one_outcome keeps stores s x t y h a b e f = turns_alike keeps stores a.count b.count s x t y h a.turns b.turns e f

@@ -1,8 +1,8 @@
 -- What a change that was judged meets against the final list.
 use Rattle.tp_receive.proofs.Common.{◌≡◌, ◌==◌, ◌||◌, ◌⊎◌, inl, inr, List, [], ◌∷◌, ◌++◌, length, Bool, true, false, Option, Some, None, refl, sym, ap, ◌∙◌, subst, append_assoc, append-nil, In, AllIn, Hash, ChangeParts, hash_of, GraphError, MissingDeps, has, has_all, HashesApart, most_changes, Sound, truth, never, not_true, has-In, has-append, has-left, Sound-push, Fits-from_cause, EntersAfter, lacks_deps, is_refusal, Known, or_full, has_all-In, enters, BadSeq, BadStart, BadReference, SeqClash, UnknownHead, Full, defect, defect-later, neither}
-use Rattle.tp_graph.specs.declared.error.GraphError.TheVariants.{OutOfMemory}
-use Rattle.tp_graph.specs.Fit.{cause}
-use Rattle.tp_graph.proofs.CauseLaws.{missing_deps_is}
+use Rattle.tp_history.specs.declared.error.GraphError.TheVariants.{OutOfMemory}
+use Rattle.tp_history.specs.Fit.{cause}
+use Rattle.tp_history.proofs.CauseLaws.{missing_deps_is}
 use Rattle.tp_receive.proofs.RefusalLaws.{cause-known, refused-stays, EntersAfter-append}
 
 -- ---- a cause other than a missing dependency stays the same
@@ -91,11 +91,11 @@ waits_again C c new lacks = ap (λ o. or_full o (length C == most_changes)) ((mi
 
 -- ---- what never enters
 
--- Whatever changes of F enter behind C, none of them has the hash, and C has none.
+-- Whatever changes of F enter after C, none of them has the hash, and C has none.
 abbrev pub Never : List ChangeParts → List ChangeParts → Hash → Type 0
 Never F C h = (new : List ChangeParts) → EntersAfter C new → AllIn new F → has (C ++ new) h ≡ false
 
--- Whatever changes of F enter behind C, the change isn't one of them.
+-- Whatever changes of F enter after C, the change isn't one of them.
 abbrev pub NeverEnters : List ChangeParts → List ChangeParts → ChangeParts → Type 0
 NeverEnters F C c = (new : List ChangeParts) → EntersAfter C new → AllIn new F → In c new → ⊥
 

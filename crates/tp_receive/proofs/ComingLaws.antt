@@ -6,7 +6,7 @@ use Rattle.tp_receive.proofs.HashLaws.{among-hashes}
 pub has-both : (C D : List ChangeParts) (H : List Hash) (h : Hash) → IsHashSetOf H D → has (C ++ D) h ≡ (has C h || has_hash H h)
 has-both C D H h e = has-append C D h ∙ ap (λ b. has C h || b) (sym (e h))
 
--- a change and its mark behind those that are marked
+-- a change and its mark after those that are marked
 pub zip_pushed : (K : List ChangeParts) (i : ℕ) (d : ChangeParts) (B : List Bool) (b : Bool) → i < length K → length B ≡ i → zip (take (i + 1) K) (B ++ b ∷ []) ≡ zip (take i K) B ++ (get_or K i d, b) ∷ []
 zip_pushed K i d B b small long =
     ap (λ (l : List ChangeParts). zip l (B ++ b ∷ [])) (take_more K i d small) ∙ pushed (take i K) B (length-take-le i K (omega arith) ∙ sym long) where
@@ -16,7 +16,7 @@ zip_pushed K i d B b small long =
       pushed (c ∷ C) [] e = absurd (omega arith)
       pushed (c ∷ C) (m ∷ M) e = ap (λ (l : List (ChangeParts × Bool)). (c, m) ∷ l) (pushed C M (omega arith))
 
--- the next change with its mark, before those behind it
+-- the next change with its mark, before those after it
 pub zip_next : (K Q : List ChangeParts) (M : List Bool) (i : ℕ) (c : ChangeParts) (b : Bool) → K ≡ c ∷ Q → i < length M → b ≡ get_or M i b → zip K (drop i M) ≡ (c, b) ∷ zip Q (drop (i + 1) M)
 zip_next K Q M i c b is small marked =
     ap (λ (l : List ChangeParts). zip l (drop i M)) is ∙ ap (zip (c ∷ Q)) (drop_more M i b small ∙ ap (λ (m : Bool). m ∷ drop (i + 1) M) (sym marked))
@@ -40,12 +40,12 @@ slots_there P Q c slot n count is there =
     let all : slots P ≡ slots Q + 1 = ap slots is ∙ ap (λ (b : Bool). cond b (slots Q + 1) (slots Q)) there in
     omega arith
 
--- the slots behind the next that comes
-pub slots_behind : (P Q : List (ChangeParts × Bool)) (c : ChangeParts) (slot : Bool) (n m : ℕ) → n ≡ slots P → P ≡ (c, slot) ∷ Q → ((slot ≡ true) × (m ≡ n - 1)) ⊎ ((slot ≡ false) × (m ≡ n)) → m ≡ slots Q
-slots_behind P Q c slot n m count is (inl h) =
+-- the slots after the next that comes
+pub slots_after : (P Q : List (ChangeParts × Bool)) (c : ChangeParts) (slot : Bool) (n m : ℕ) → n ≡ slots P → P ≡ (c, slot) ∷ Q → ((slot ≡ true) × (m ≡ n - 1)) ⊎ ((slot ≡ false) × (m ≡ n)) → m ≡ slots Q
+slots_after P Q c slot n m count is (inl h) =
     let all : slots P ≡ slots Q + 1 = ap slots is ∙ ap (λ (b : Bool). cond b (slots Q + 1) (slots Q)) h.0 in
     omega (arith, h.1)
-slots_behind P Q c slot n m count is (inr h) = h.1 ∙ count ∙ ap slots is ∙ ap (λ (b : Bool). cond b (slots Q + 1) (slots Q)) h.0
+slots_after P Q c slot n m count is (inr h) = h.1 ∙ count ∙ ap slots is ∙ ap (λ (b : Bool). cond b (slots Q + 1) (slots Q)) h.0
 
 -- D are the deliverable changes so far and V those with a slot, whose hashes are kept; what is noted so far and what is
 -- still to be noted are all.

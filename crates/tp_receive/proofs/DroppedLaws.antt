@@ -6,7 +6,7 @@ use Rattle.tp_receive.proofs.TurnLaws.{Turn-cases, IsHere, changes_of, with_rest
 use Rattle.tp_receive.proofs.RunLaws.{In-pushed, HasRoom, refusal_drops, placing_of}
 use Rattle.tp_receive.proofs.AccountedLaws.{IsSettled, HadTurn, HadTurn-turn, done_entered, done_refused, waits_already}
 
--- Where F is what waited and came and the list K began behind C0, and P is to come: D are the deliverable ones so far
+-- Where F is what waited and came, the list K began after C0, and P is to come: D are the deliverable ones so far
 -- and what was applied, V those with a slot, U the undeliverable ones so far, and zs are to come. Each of D is there or
 -- never comes; each of V had its turn; and what was dropped is barred and not undeliverable.
 pub record Delivering {S : Type 0} (F C0 K : List ChangeParts) (P : List (ChangeParts × Bool)) (t : Intake S) : Type 0 where
@@ -135,7 +135,7 @@ Delivering-next {S} F C0 K P Q c slot t apart i is turn met g =
 
 -- ---- one turn
 
--- The same of a state whose turn changed what is applied and reported, where what is dropped is so still.
+-- Delivering goes on in a state whose turn changed what is applied and reported, where what was dropped is so still.
 moved : {S : Type 0} (F C0 K : List ChangeParts) (P : List (ChangeParts × Bool)) (s t : Intake S) → Delivering F C0 K P s
     → ((h : Hash) → has s.applied h ≡ true → has t.applied h ≡ true) → ((h : Hash) → Never F s.applied h → Never F t.applied h) → ((c : ChangeParts) → HadTurn s c → HadTurn t c)
     → ((c : ChangeParts) → In c F → In (hash_of c, MissingDeps) t.refused → Barred F t.applied c) → ((h : Hash) → In (h, MissingDeps) t.refused → has (undeliverable (delivery C0 K)) h ≡ false)
@@ -209,7 +209,7 @@ dropped_barred {S} F C0 K s c Q slot apart here room g is lacks new full =
                 (has_all-more g.D (g.D ++ c ∷ []) c.deps (λ x j. In-left x g.D (c ∷ []) j) all))),
           )
 
--- Behind each turn.
+-- After each turn.
 pub Delivering-turn : {S : Type 0} (keeps : S → ChangeParts → S → Type 0) (F C0 K : List ChangeParts) (s t : Intake S) → HashesApart F → ((d : ChangeParts) → IsHere s.waiting s.coming d → In d F)
     → HasRoom s → Turn keeps s t → Delivering F C0 K s.coming s → Delivering F C0 K t.coming t
 Delivering-turn {S} keeps F C0 K s t apart here room u g =

@@ -21,7 +21,7 @@ Sound-grows C K D new s g = subst Sound (sym g.begins) (Sound-entered C new s g.
 pub refused-grows : (C K D new : List ChangeParts) (c : ChangeParts) → Grows C K D new → is_refusal (cause C c) ≡ true → is_refusal (cause D c) ≡ true
 refused-grows C K D new c g h = subst (λ l. is_refusal (cause l c) ≡ true) (sym g.begins) (refused-stays C new c g.fits h)
 
--- some change of K can enter, with those before and behind it
+-- some change of K can enter, with those before and after it
 abbrev pub OneEnters : List ChangeParts → List ChangeParts → Type 0
 OneEnters C K = (A : List ChangeParts) × (x : ChangeParts) × (B : List ChangeParts) × (K ≡ A ++ x ∷ B) × (cause C x ≡ None)
 
@@ -74,7 +74,7 @@ exists_by (suc n) C K e s =
 pub receives-exists : (C K : List ChangeParts) → Sound C → (long : List ChangeParts) × Receives C K long
 receives-exists C K s = exists_by (length K) C K refl s
 
--- what grew by changes that came stands between
+-- what grew by changes that came is between the two
 pub Between-grown : (C K long new : List ChangeParts) → Sound C → Grows C K long new → Between C K long
 Between-grown C K long new s g =
     let r = receives-exists long K (Sound-grows C K long new s g) in

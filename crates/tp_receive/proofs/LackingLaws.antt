@@ -78,7 +78,7 @@ gains_last C x h other lacks = has-append C (x ∷ []) h ∙ rw (lacks, other) r
 
 -- ---- the changes that wait, one of them at a time
 
--- An element that was read is what stands there.
+-- An element that was read is what is there.
 pub read_at : {X : Type 0} (V W : List X) (i : ℕ) (d c : X) → V ≡ W → d ≡ get_or V i d → slice_get W i ≡ Some c → d ≡ c
 read_at V W i d c same is get = is ∙ ap (λ l. get_or l i d) same ∙ get_or_from_slice_get W i c d get
 
@@ -137,12 +137,12 @@ removed_once (d ∷ W) (suc i) c o e =
     rw (apart, removed_once W i c o.1 e) refl
 
 -- What is known of the others where one is taken out: nothing of one with its hash.
-pub knows_behind : (C W V : List ChangeParts) (L M : List (Option Hash)) (i : ℕ) (c : ChangeParts) (x : Hash) → HashesOnce W → slice_get W i ≡ Some c → x ≡ hash_of c → KnowsLack C W L → V ≡ remove W i → M ≡ remove L i
+pub knows_after : (C W V : List ChangeParts) (L M : List (Option Hash)) (i : ℕ) (c : ChangeParts) (x : Hash) → HashesOnce W → slice_get W i ≡ Some c → x ≡ hash_of c → KnowsLack C W L → V ≡ remove W i → M ≡ remove L i
     → KnowsApart C x V M
-knows_behind C W V L M i c x once get is knows v m =
+knows_after C W V L M i c x once get is knows v m =
     knows_apart C x V M (ap (has V) is ∙ ap (λ l. has l (hash_of c)) v ∙ removed_once W i c once get) (KnowsLack-removed C W V L M i knows v m)
 
--- the step to the next one, of which nothing is known any more
+-- the step to the next one, which isn't known to lack another any more
 pub forgets_one : (C D W : List ChangeParts) (L M : List (Option Hash)) (i : ℕ) (x : Hash) → KnowsApart C x W L → length M ≡ length L → i < length M → IsHalfway (LacksApart C x) (Lacks D) W M i
     → IsHalfway (LacksApart C x) (Lacks D) W (set M i None) (i + 1)
 forgets_one C D W L M i x k same small h =
@@ -179,7 +179,7 @@ known_more n i L o e within is some known j small = elim (cases_lt j i) [
       subst (λ k. is_some (get_or L k None) ≡ true) same (ap is_some (get_or_from_slice_get L i o None (slice_get-get_or L i o within ∙ ap Some (sym is))) ∙ some)
 ]
 
--- Those of which something is known must wait.
+-- Those that are known to lack another must wait.
 pub all_known : (D W : List ChangeParts) (L : List (Option Hash)) (n : ℕ) → KnowsLack D W L → AreKnown n L → AllWait D (take n W)
 all_known D W L zero k known c i = absurd i
 all_known D [] [] (suc n) k known c i = absurd i

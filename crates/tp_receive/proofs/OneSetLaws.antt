@@ -1,13 +1,13 @@
 -- Any two results of receiving one list have the same members.
 use Rattle.tp_receive.proofs.Common.{◌≡◌, ◌<◌, inl, inr, List, [], ◌∷◌, ◌++◌, length, false, None, IsSome, refl, sym, ap, subst, append_assoc, append-nil, In, AllIn, ChangeParts, hash_of, GraphError, has, HashesApart, cause, most_changes, Sound, truth, never, not_true, has-In, In-has, In-left, In-right, In-append, Sound-push, Fits-from_cause, EntersAfter, clashes, Receives, SameMembers, same_actor-same, cause-from_Fits, SeqsApart, Fits-part}
-use Rattle.tp_graph.proofs.ClashLaws.{clash_of}
+use Rattle.tp_history.proofs.ClashLaws.{clash_of}
 
 -- The changes of a result are of what was there and came.
 pub of_both : (C K long : List ChangeParts) → Receives C K long → AllIn long (C ++ K)
 of_both C K long r c i =
     elim (In-append c C r.new (subst (In c) r.entered.begins i)) [ inl j ↦ In-left c C K j | inr j ↦ In-right c C K (r.entered.came c j) ]
 
--- A change that enters behind a part of another result is there.
+-- A change that enters after a part of another result is there.
 there : (C K P other : List ChangeParts) (x : ChangeParts) → HashesApart (C ++ K) → SeqsApart (C ++ K) → length other < most_changes → Receives C K other
     → Sound P → AllIn P other → In x K → cause P x ≡ None → In x other
 there C K P other x apart seqs small r s part came none =
@@ -27,7 +27,7 @@ there C K P other x apart seqs small r s part came none =
           cc
     ]
 
--- What enters one after another behind a part of another result is there.
+-- What enters one after another after a part of another result is there.
 all_there : (C K P new other : List ChangeParts) → HashesApart (C ++ K) → SeqsApart (C ++ K) → length other < most_changes → Receives C K other
     → Sound P → AllIn P other → AllIn new K → EntersAfter P new → AllIn (P ++ new) other
 all_there C K P [] other apart seqs small r s part came fits = subst (λ l. AllIn l other) (sym (append-nil P)) part

@@ -1,8 +1,8 @@
 -- A cause other than a missing dependency stays whatever enters.
-use Rattle.tp_receive.proofs.Common.{◌≡◌, ◌==◌, inl, inr, List, [], ◌∷◌, ◌++◌, length, Bool, true, false, ◌||◌, Option, Some, None, IsSome, refl, sym, ap, subst, append_assoc, append-nil, AllIn, ChangeParts, hash_of, GraphError, has, has_all, most_changes, Sound, truth, has-left, In-left, Sound-push, Fits-from_cause, EntersAfter, lacks_deps, is_refusal, Known, or_full, clashes, has_all-more, enters, defect_behind, or_clash, Fits, not_among}
-use Rattle.tp_graph.specs.Past.{past}
-use Rattle.tp_graph.specs.Fit.{defect, cause}
-use Rattle.tp_graph.proofs.PastLaws.{past-push_other}
+use Rattle.tp_receive.proofs.Common.{◌≡◌, ◌==◌, inl, inr, List, [], ◌∷◌, ◌++◌, length, Bool, true, false, ◌||◌, Option, Some, None, IsSome, refl, sym, ap, subst, append_assoc, append-nil, AllIn, ChangeParts, hash_of, GraphError, has, has_all, most_changes, Sound, truth, has-left, In-left, Sound-push, Fits-from_cause, EntersAfter, lacks_deps, is_refusal, Known, or_full, clashes, has_all-more, enters, defect_after, or_clash, Fits, not_among}
+use Rattle.tp_history.specs.Past.{past}
+use Rattle.tp_history.specs.Fit.{defect, cause}
+use Rattle.tp_history.proofs.PastLaws.{past-push_other}
 
 -- a refusal is a cause
 pub IsSome-refusal : (o : Option GraphError) → is_refusal o ≡ true → IsSome o
@@ -50,7 +50,7 @@ defect-more C x c f h =
               let more : AllIn C (C ++ x ∷ []) = λ d i. In-left d C (x ∷ []) i in
               let g = rw (new, all) at h in
               rw (still, has_all-more C (C ++ x ∷ []) c.deps more all, past-push_other C c.deps x (not_among C c.deps x all f.new))
-              (clash_more (defect_behind (past C c.deps) c) (clashes C c) (clashes (C ++ x ∷ []) c) (clashes-left C (x ∷ []) c) g)
+              (clash_more (defect_after (past C c.deps) c) (clashes C c) (clashes (C ++ x ∷ []) c) (clashes-left C (x ∷ []) c) g)
           | inr lacks ↦ let g = rw (new, lacks) at h in cc
         ]
       ]
@@ -73,7 +73,7 @@ refused-stays C (x ∷ new) c e h =
 pub refused-known : (C : List ChangeParts) (c : ChangeParts) → has C (hash_of c) ≡ true → is_refusal (cause C c) ≡ true
 refused-known C c h = ap is_refusal (cause-known C c h)
 
--- what enters one after another behind a sound list is sound with it
+-- what enters in sequence after a sound list is sound with it
 pub Sound-entered : (C new : List ChangeParts) → Sound C → EntersAfter C new → Sound (C ++ new)
 Sound-entered C [] s e = subst Sound (sym (append-nil C)) s
 Sound-entered C (x ∷ new) s e = subst Sound (append_assoc C (x ∷ []) new) (Sound-entered (C ++ x ∷ []) new (Sound-push C x s (Fits-from_cause C x e.0)) e.1)

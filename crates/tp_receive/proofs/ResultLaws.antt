@@ -1,14 +1,14 @@
 -- What a whole run came to.
-use Rattle.tp_receive.proofs.Common.{◌≡◌, ℕ, ◌+◌, ◌≤◌, ◌⊎◌, inl, inr, List, ◌++◌, length, Bool, true, false, Some, refl, sym, ap, ◌∙◌, subst, arith, nat_lt, In-append, nat_tests, In, Hash, ChangeParts, hash_of, GraphError, MissingDeps, cause, most_waiting, Sound, ReceiveError, KeepError, HashesApart, is_refusal, delivery, with_slots, slots, Intake, Turn, Receiver, Run, Stops, begin, Between, is_full, Ends, Results}
+use Rattle.tp_receive.proofs.Common.{◌≡◌, ℕ, ◌+◌, ◌≤◌, ◌⊎◌, inl, inr, List, ◌++◌, length, Bool, true, false, Some, refl, sym, ap, ◌∙◌, subst, arith, nat_lt, In-append, nat_tests, In, Hash, ChangeParts, hash_of, GraphError, MissingDeps, cause, most_waiting, Sound, ReceiveError, KeepError, HashesApart, is_refusal, delivery, with_slots, slots, Intake, Turn, Receiver, SomeTurns, Stops, begin, Between, is_full, IsIntakeDone, Results}
 use Rattle.tp_receive.proofs.RefusalLaws.{IsSome-refusal, IsSome-lacks}
 use Rattle.tp_receive.proofs.CausesLaws.{Barred-cause, lacks_cause}
 use Rattle.tp_receive.proofs.GrowsLaws.{Sound-grows, Between-grown}
-use Rattle.tp_receive.proofs.TurnLaws.{Run-keeps, changes_of}
+use Rattle.tp_receive.proofs.TurnLaws.{SomeTurns-keeps, changes_of}
 use Rattle.tp_receive.proofs.RunLaws.{Grew, Grew-turn, Grew-first, Grew-run, few_at_end, HasRoom, HasRoom-turn, here_first, placing_of}
 use Rattle.tp_receive.proofs.AccountedLaws.{HadTurn, HadTurn-turn, IsSomewhere-turn, AreCauses, AreCauses-turn}
 use Rattle.tp_receive.proofs.DroppedLaws.{Delivering, Delivering-first, Delivering-turn}
 
--- What holds behind each turn, where two changes with one hash are one.
+-- What holds after each turn, where two changes with one hash are one.
 record Holds {S : Type 0} (keeps : S → ChangeParts → S → Type 0) (k : S) (C W K : List ChangeParts) (t : Intake S) : Type 0 where
   grew : Grew keeps (begin k C W K) (W ++ K) t
   room : HasRoom t
@@ -33,9 +33,9 @@ not_full : (n : ℕ) → nat_lt most_waiting n ≡ false → n ≤ most_waiting
 not_full n e = grind (arith, nat_tests)
 
 holds : {S : Type 0} (keeps : S → ChangeParts → S → Type 0) (k : S) (C W K : List ChangeParts) (t : Intake S) → Sound C → HashesApart (W ++ K) → is_full C W K ≡ false
-    → Run keeps (begin k C W K) t → Holds keeps k C W K t
+    → SomeTurns keeps (begin k C W K) t → Holds keeps k C W K t
 holds keeps k C W K t sound apart space r =
-    Run-keeps keeps (Holds keeps k C W K) (Holds-turn keeps k C W K sound apart) (begin k C W K) t r
+    SomeTurns-keeps keeps (Holds keeps k C W K) (Holds-turn keeps k C W K sound apart) (begin k C W K) t r
     (record {
       grew = Grew-first keeps (begin k C W K) (W ++ K) refl (here_first C W K);
       room = not_full (length W + slots (with_slots W (delivery C K))) space;
@@ -46,7 +46,7 @@ holds keeps k C W K t sound apart space r =
 
 -- What a run came to that ended.
 pub results : {S : Type 0} (keeps : S → ChangeParts → S → Type 0) (k : S) (C W K : List ChangeParts) (t : Intake S) → Sound C → HashesApart (W ++ K) → is_full C W K ≡ false
-    → Run keeps (begin k C W K) t → Ends t → Results C W K t
+    → SomeTurns keeps (begin k C W K) t → IsIntakeDone t → Results C W K t
 results {S} keeps k C W K t sound apart space r ends =
     let h = holds keeps k C W K t sound apart space r in
     let dropped : (c : ChangeParts) → In c (W ++ K) → In (hash_of c, MissingDeps) t.refused → cause t.applied c ≡ Some MissingDeps =
@@ -95,7 +95,7 @@ results {S} keeps k C W K t sound apart space r ends =
       pair : (g h : Hash) (e f : GraphError) → g ≡ h → e ≡ f → (let p : Hash × GraphError = (g, e) in p) ≡ (let q : Hash × GraphError = (h, f) in q)
       pair g h e f a b = rw (a, b) refl
 
-pub few_wait : {S : Type 0} (keeps : S → ChangeParts → S → Type 0) (k : S) (C W K : List ChangeParts) (t : Intake S) → is_full C W K ≡ false → Run keeps (begin k C W K) t → length t.waiting ≤ most_waiting
+pub few_wait : {S : Type 0} (keeps : S → ChangeParts → S → Type 0) (k : S) (C W K : List ChangeParts) (t : Intake S) → is_full C W K ≡ false → SomeTurns keeps (begin k C W K) t → length t.waiting ≤ most_waiting
 few_wait keeps k C W K t space r = few_at_end keeps (begin k C W K) t r (not_full (length W + slots (with_slots W (delivery C K))) space)
 
 -- Where a run stopped, the list is between.

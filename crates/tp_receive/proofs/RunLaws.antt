@@ -1,9 +1,9 @@
 -- What holds wherever a run stops: what entered and was kept, that nothing is lost, and how many wait.
-use Rattle.tp_receive.proofs.Common.{◌≡◌, ℕ, suc, ◌+◌, ◌≤◌, ◌⊎◌, inl, inr, List, [], ◌∷◌, ◌++◌, length, Bool, true, false, cond, Option, Some, refl, sym, ap, ◌∙◌, subst, arith, length-append, append_assoc, append-nil, In-left, In-right, In-append, In, AllIn, Hash, ChangeParts, hash_of, has_all, GraphError, MissingDeps, cause, most_waiting, is_refusal, hashes, delivery, with_slots, takes_slot, slots, Intake, Turn, Run, begin, refuse, Grows, KeepsAll, Progress, WasRefused, LosesNone, NoneDropped}
+use Rattle.tp_receive.proofs.Common.{◌≡◌, ℕ, suc, ◌+◌, ◌≤◌, ◌⊎◌, inl, inr, List, [], ◌∷◌, ◌++◌, length, Bool, true, false, cond, Option, Some, refl, sym, ap, ◌∙◌, subst, arith, length-append, append_assoc, append-nil, In-left, In-right, In-append, In, AllIn, Hash, ChangeParts, hash_of, has_all, GraphError, MissingDeps, cause, most_waiting, is_refusal, hashes, delivery, with_slots, takes_slot, slots, Intake, Turn, SomeTurns, begin, refuse, Grows, KeepsAll, Progress, WasRefused, LosesNone, NoneDropped}
 use Rattle.tp_receive.proofs.RefusalLaws.{refused-push}
 use Rattle.tp_receive.proofs.GrowsLaws.{Grows-none, Grows-one, Grows-then}
 use Rattle.tp_receive.proofs.HashLaws.{hashes-append}
-use Rattle.tp_receive.proofs.TurnLaws.{Run-keeps, Turn-cases, IsHere, changes_of, with_rest}
+use Rattle.tp_receive.proofs.TurnLaws.{SomeTurns-keeps, Turn-cases, IsHere, changes_of, with_rest}
 
 pub In-pushed : {X : Type 0} (xs : List X) (x y : X) → In y (xs ++ x ∷ []) → (y ≡ x) ⊎ In y xs
 In-pushed xs x y i = elim (In-append y xs (x ∷ []) i) [ inl j ↦ inr j | inr j ↦ elim j [ inl e ↦ inl e | inr n ↦ absurd n ] ]
@@ -103,12 +103,12 @@ pub here_first : (C W K : List ChangeParts) (d : ChangeParts) → IsHere W (with
 here_first C W K d (inl i) = In-left d W K i
 here_first C W K d (inr i) = In-right d W K (subst (In d) (placing_of C W K) i)
 
-pub Grew-run : {S : Type 0} (keeps : S → ChangeParts → S → Type 0) (k : S) (C W K : List ChangeParts) (t : Intake S) → Run keeps (begin k C W K) t → Grew keeps (begin k C W K) (W ++ K) t
+pub Grew-run : {S : Type 0} (keeps : S → ChangeParts → S → Type 0) (k : S) (C W K : List ChangeParts) (t : Intake S) → SomeTurns keeps (begin k C W K) t → Grew keeps (begin k C W K) (W ++ K) t
 Grew-run keeps k C W K t r =
-    Run-keeps keeps (Grew keeps (begin k C W K) (W ++ K)) (Grew-turn keeps (begin k C W K) (W ++ K)) (begin k C W K) t r
+    SomeTurns-keeps keeps (Grew keeps (begin k C W K) (W ++ K)) (Grew-turn keeps (begin k C W K) (W ++ K)) (begin k C W K) t r
     (Grew-first keeps (begin k C W K) (W ++ K) refl (here_first C W K))
 
-pub progress : {S : Type 0} (keeps : S → ChangeParts → S → Type 0) (k : S) (C W K : List ChangeParts) (t : Intake S) → Run keeps (begin k C W K) t → Progress keeps k C (W ++ K) t
+pub progress : {S : Type 0} (keeps : S → ChangeParts → S → Type 0) (k : S) (C W K : List ChangeParts) (t : Intake S) → SomeTurns keeps (begin k C W K) t → Progress keeps k C (W ++ K) t
 progress keeps k C W K t r =
     let g = Grew-run keeps k C W K t r in
     record { new = g.new; grows = g.grows; kept = g.kept; reported = g.reported; refused = g.refused; waits = λ d i. g.here d (inl i) }
@@ -148,9 +148,9 @@ LosesNone-turn {S} keeps s t u =
     })
     u
 
-pub nothing_lost : {S : Type 0} (keeps : S → ChangeParts → S → Type 0) (s t : Intake S) → Run keeps s t → LosesNone s.applied t.applied s.waiting t.waiting
+pub nothing_lost : {S : Type 0} (keeps : S → ChangeParts → S → Type 0) (s t : Intake S) → SomeTurns keeps s t → LosesNone s.applied t.applied s.waiting t.waiting
 nothing_lost {S} keeps s t r =
-    Run-keeps keeps (λ (t : Intake S). LosesNone s.applied t.applied s.waiting t.waiting)
+    SomeTurns-keeps keeps (λ (t : Intake S). LosesNone s.applied t.applied s.waiting t.waiting)
     (λ m t u l. LosesNone-then s.applied m.applied t.applied s.waiting m.waiting t.waiting l (LosesNone-turn keeps m t u))
     s t r (LosesNone-held s.applied s.waiting s.waiting (λ d i. i))
 
@@ -172,8 +172,8 @@ HasRoom-turn {S} keeps s t u room =
     })
     u
 
-pub few_at_end : {S : Type 0} (keeps : S → ChangeParts → S → Type 0) (s t : Intake S) → Run keeps s t → HasRoom s → length t.waiting ≤ most_waiting
-few_at_end {S} keeps s t r room = let h : HasRoom t = Run-keeps keeps HasRoom (HasRoom-turn keeps) s t r room in omega arith
+pub few_at_end : {S : Type 0} (keeps : S → ChangeParts → S → Type 0) (s t : Intake S) → SomeTurns keeps s t → HasRoom s → length t.waiting ≤ most_waiting
+few_at_end {S} keeps s t r room = let h : HasRoom t = SomeTurns-keeps keeps HasRoom (HasRoom-turn keeps) s t r room in omega arith
 
 -- what waits and is still to come is no more than may wait, and none was dropped
 record Fewest {S : Type 0} (s : Intake S) : Type 0 where
@@ -210,9 +210,9 @@ Fewest-turn {S} keeps s t u f =
     u
 
 -- Where what waited and came is few, none was dropped.
-pub none_dropped : {S : Type 0} (keeps : S → ChangeParts → S → Type 0) (k : S) (C W K : List ChangeParts) (t : Intake S) → length W + length K ≤ most_waiting → Run keeps (begin k C W K) t → NoneDropped t.refused
+pub none_dropped : {S : Type 0} (keeps : S → ChangeParts → S → Type 0) (k : S) (C W K : List ChangeParts) (t : Intake S) → length W + length K ≤ most_waiting → SomeTurns keeps (begin k C W K) t → NoneDropped t.refused
 none_dropped {S} keeps k C W K t few r =
-    (Run-keeps keeps Fewest (Fewest-turn keeps) (begin k C W K) t r
+    (SomeTurns-keeps keeps Fewest (Fewest-turn keeps) (begin k C W K) t r
     (record { few = subst (λ (n : ℕ). length W + n ≤ most_waiting) (sym (as_many (with_slots W (delivery C K)) ∙ ap length (placing_of C W K))) few; none = λ h i. i })).none where
       as_many : (P : List (ChangeParts × Bool)) → length P ≡ length (changes_of P)
       as_many [] = refl

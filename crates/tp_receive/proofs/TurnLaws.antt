@@ -1,27 +1,27 @@
 -- Turns: what each takes out and leaves, and how runs add up.
-use Rattle.tp_receive.proofs.Common.{◌≡◌, ℕ, zero, suc, ◌+◌, ◌<◌, ◌≤◌, ◌⊎◌, inl, inr, List, [], ◌∷◌, ◌++◌, length, Bool, true, false, cond, Some, None, refl, sym, ap, ◌∙◌, subst, arith, length-append, nat_lt, In-left, In-right, In-append, truth, nat_tests, In, ChangeParts, hash_of, GraphError, MissingDeps, has, cause, most_waiting, ReceiveError, KeepError, lacks_deps, is_refusal, slots, Intake, refuse, hold, Meets, Next, Receiver, Turn, Run, Stops, enter, Turns}
+use Rattle.tp_receive.proofs.Common.{◌≡◌, ℕ, zero, suc, ◌+◌, ◌<◌, ◌≤◌, ◌⊎◌, inl, inr, List, [], ◌∷◌, ◌++◌, length, Bool, true, false, cond, Some, None, refl, sym, ap, ◌∙◌, subst, arith, length-append, nat_lt, In-left, In-right, In-append, truth, nat_tests, In, ChangeParts, hash_of, GraphError, MissingDeps, has, cause, most_waiting, ReceiveError, KeepError, lacks_deps, is_refusal, slots, Intake, refuse, hold, DecidesChange, NextChange, Receiver, Turn, SomeTurns, Stops, enter, Turns}
 
 -- ---- runs add up
 
-pub Run-none : {S : Type 0} (keeps : S → ChangeParts → S → Type 0) (s : Intake S) → Run keeps s s
-Run-none keeps s = record { count = 0; turns = refl }
+pub SomeTurns-none : {S : Type 0} (keeps : S → ChangeParts → S → Type 0) (s : Intake S) → SomeTurns keeps s s
+SomeTurns-none keeps s = record { count = 0; turns = refl }
 
-turns_then : {S : Type 0} (keeps : S → ChangeParts → S → Type 0) (n : ℕ) (s m t : Intake S) → Turns keeps n s m → Run keeps m t → Run keeps s t
-turns_then {S} keeps zero s m t a b = subst (λ (x : Intake S). Run keeps x t) (sym a) b
+turns_then : {S : Type 0} (keeps : S → ChangeParts → S → Type 0) (n : ℕ) (s m t : Intake S) → Turns keeps n s m → SomeTurns keeps m t → SomeTurns keeps s t
+turns_then {S} keeps zero s m t a b = subst (λ (x : Intake S). SomeTurns keeps x t) (sym a) b
 turns_then {S} keeps (suc n) s m t a b = let r = turns_then keeps n a.0 m t a.2 b in record { count = suc r.count; turns = (a.0, a.1, r.turns) }
 
-pub Run-then : {S : Type 0} (keeps : S → ChangeParts → S → Type 0) (s m t : Intake S) → Run keeps s m → Run keeps m t → Run keeps s t
-Run-then keeps s m t a b = turns_then keeps a.count s m t a.turns b
+pub SomeTurns-then : {S : Type 0} (keeps : S → ChangeParts → S → Type 0) (s m t : Intake S) → SomeTurns keeps s m → SomeTurns keeps m t → SomeTurns keeps s t
+SomeTurns-then keeps s m t a b = turns_then keeps a.count s m t a.turns b
 
-pub Run-turn : {S : Type 0} (keeps : S → ChangeParts → S → Type 0) (s m t : Intake S) → Turn keeps s m → Run keeps m t → Run keeps s t
-Run-turn keeps s m t a b = record { count = suc b.count; turns = (m, a, b.turns) }
+pub SomeTurns-turn : {S : Type 0} (keeps : S → ChangeParts → S → Type 0) (s m t : Intake S) → Turn keeps s m → SomeTurns keeps m t → SomeTurns keeps s t
+SomeTurns-turn keeps s m t a b = record { count = suc b.count; turns = (m, a, b.turns) }
 
-pub Run-one : {S : Type 0} (keeps : S → ChangeParts → S → Type 0) (s t : Intake S) → Turn keeps s t → Run keeps s t
-Run-one keeps s t a = record { count = 1; turns = (t, a, refl) }
+pub SomeTurns-one : {S : Type 0} (keeps : S → ChangeParts → S → Type 0) (s t : Intake S) → Turn keeps s t → SomeTurns keeps s t
+SomeTurns-one keeps s t a = record { count = 1; turns = (t, a, refl) }
 
 pub Stops-then : {S : Type 0} (keeps : S → ChangeParts → S → Type 0) (refuses : S → ChangeParts → KeepError → S → Type 0) (s m : Intake S) (e : ReceiveError) (t : Receiver S)
-    → Run keeps s m → Stops keeps refuses m e t → Stops keeps refuses s e t
-Stops-then keeps refuses s m e t a b = record { at = b.at; run = Run-then keeps s m b.at a b.run; applied = b.applied; waiting = b.waiting; by = b.by }
+    → SomeTurns keeps s m → Stops keeps refuses m e t → Stops keeps refuses s e t
+Stops-then keeps refuses s m e t a b = record { at = b.at; run = SomeTurns-then keeps s m b.at a b.run; applied = b.applied; waiting = b.waiting; by = b.by }
 
 turns_keep : {S : Type 0} (keeps : S → ChangeParts → S → Type 0) (P : Intake S → Type 0) → ((s t : Intake S) → Turn keeps s t → P s → P t)
     → (n : ℕ) (s t : Intake S) → Turns keeps n s t → P s → P t
@@ -29,9 +29,9 @@ turns_keep keeps P step zero s t a p = subst P a p
 turns_keep keeps P step (suc n) s t a p = turns_keep keeps P step n a.0 t a.2 (step s a.0 a.1 p)
 
 -- What each turn keeps, a run keeps.
-pub Run-keeps : {S : Type 0} (keeps : S → ChangeParts → S → Type 0) (P : Intake S → Type 0) → ((s t : Intake S) → Turn keeps s t → P s → P t)
-    → (s t : Intake S) → Run keeps s t → P s → P t
-Run-keeps keeps P step s t r p = turns_keep keeps P step r.count s t r.turns p
+pub SomeTurns-keeps : {S : Type 0} (keeps : S → ChangeParts → S → Type 0) (P : Intake S → Type 0) → ((s t : Intake S) → Turn keeps s t → P s → P t)
+    → (s t : Intake S) → SomeTurns keeps s t → P s → P t
+SomeTurns-keeps keeps P step s t r p = turns_keep keeps P step r.count s t r.turns p
 
 -- ---- what a turn takes out
 
@@ -127,23 +127,23 @@ hold_cases {S} keeps P s c Q slot h out is lacks =
     ]
 
 meets_cases : {S : Type 0} (keeps : S → ChangeParts → S → Type 0) (P : Intake S → Type 0) (s t : Intake S) (c : ChangeParts) (V : List ChangeParts) (Q : List (ChangeParts × Bool))
-    → Cases keeps P s → TakesOut s.waiting s.coming c V Q → (cause s.applied c ≡ Some MissingDeps → P (hold (with_rest s V Q) c)) → Meets keeps (with_rest s V Q) c t → P t
+    → Cases keeps P s → TakesOut s.waiting s.coming c V Q → (cause s.applied c ≡ Some MissingDeps → P (hold (with_rest s V Q) c)) → DecidesChange keeps (with_rest s V Q) c t → P t
 meets_cases keeps P s t c V Q h out lacks (inl m) = subst P (sym m.3) (h.entered c V Q m.1 out m.0 m.2)
 meets_cases keeps P s t c V Q h out lacks (inr (inl m)) = subst P (sym m.1) (lacks m.0)
 meets_cases keeps P s t c V Q h out lacks (inr (inr m)) = subst P (sym m.3) (h.refused c V Q m.0 out m.1 m.2)
 
 next_cases : {S : Type 0} (keeps : S → ChangeParts → S → Type 0) (P : Intake S → Type 0) (s t rest : Intake S) (c : ChangeParts)
-    → Cases keeps P s → Next s c rest → Meets keeps rest c t → P t
+    → Cases keeps P s → NextChange s c rest → DecidesChange keeps rest c t → P t
 next_cases {S} keeps P s t rest c h (inl n) m =
-    let out : TakesOut s.waiting s.coming c (n.before ++ n.behind) s.coming = subst (λ W. TakesOut W s.coming c (n.before ++ n.behind) s.coming) (sym n.waits) (takes_waiting n.before n.behind s.coming c) in
-    meets_cases keeps P s t c (n.before ++ n.behind) s.coming h out
+    let out : TakesOut s.waiting s.coming c (n.before ++ n.beyond) s.coming = subst (λ W. TakesOut W s.coming c (n.before ++ n.beyond) s.coming) (sym n.waits) (takes_waiting n.before n.beyond s.coming c) in
+    meets_cases keeps P s t c (n.before ++ n.beyond) s.coming h out
     (λ lacks. let no : false ≡ true = sym n.ready ∙ ap lacks_deps lacks in cc)
-    (subst (λ (r : Intake S). Meets keeps r c t) n.without m)
+    (subst (λ (r : Intake S). DecidesChange keeps r c t) n.without m)
 next_cases {S} keeps P s t rest c h (inr n) m =
-    let out : TakesOut s.waiting s.coming c s.waiting n.behind = subst (λ Q. TakesOut s.waiting Q c s.waiting n.behind) (sym n.comes) (takes_coming s.waiting n.behind c n.slot) in
-    meets_cases keeps P s t c s.waiting n.behind h out
-    (hold_cases keeps P s c n.behind n.slot h out n.comes)
-    (subst (λ (r : Intake S). Meets keeps r c t) n.without m)
+    let out : TakesOut s.waiting s.coming c s.waiting n.beyond = subst (λ Q. TakesOut s.waiting Q c s.waiting n.beyond) (sym n.comes) (takes_coming s.waiting n.beyond c n.slot) in
+    meets_cases keeps P s t c s.waiting n.beyond h out
+    (hold_cases keeps P s c n.beyond n.slot h out n.comes)
+    (subst (λ (r : Intake S). DecidesChange keeps r c t) n.without m)
 
 -- By the five cases.
 pub Turn-cases : {S : Type 0} (keeps : S → ChangeParts → S → Type 0) (P : Intake S → Type 0) (s t : Intake S) → Cases keeps P s → Turn keeps s t → P t

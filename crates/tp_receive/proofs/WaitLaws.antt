@@ -4,17 +4,17 @@ use Rattle.tp_receive.proofs.Common.{◌≡◌, ℕ, suc, zero, ◌+◌, ◌<◌
 -- a list around one of its elements
 pub record IsSplit {X : Type 0} (xs : List X) (i : ℕ) (x : X) : Type 0 where
   pub before : List X
-  pub behind : List X
+  pub beyond : List X
   pub prefix : take i xs ≡ before
-  pub whole : xs ≡ before ++ x ∷ behind
-  pub rest : remove xs i ≡ before ++ behind
+  pub whole : xs ≡ before ++ x ∷ beyond
+  pub rest : remove xs i ≡ before ++ beyond
 
 pub split_at : {X : Type 0} (xs : List X) (i : ℕ) (x : X) → slice_get xs i ≡ Some x → IsSplit xs i x
 split_at [] i x e = cc
-split_at (y ∷ xs) zero x e = let same : y ≡ x = cc in record { before = []; behind = xs; prefix = refl; whole = ap (λ z. z ∷ xs) same; rest = refl }
+split_at (y ∷ xs) zero x e = let same : y ≡ x = cc in record { before = []; beyond = xs; prefix = refl; whole = ap (λ z. z ∷ xs) same; rest = refl }
 split_at (y ∷ xs) (suc i) x e =
     let w = split_at xs i x e in
-    record { before = y ∷ w.before; behind = w.behind; prefix = ap (λ l. y ∷ l) w.prefix; whole = ap (λ l. y ∷ l) w.whole; rest = ap (λ l. y ∷ l) w.rest }
+    record { before = y ∷ w.before; beyond = w.beyond; prefix = ap (λ l. y ∷ l) w.prefix; whole = ap (λ l. y ∷ l) w.whole; rest = ap (λ l. y ∷ l) w.rest }
 
 -- The earliest waiting change that lacks nothing has its turn.
 pub next_waits : {S : Type 0} (k : S) (C W : List ChangeParts) (P : List (ChangeParts × Bool)) (t : List Hash) (r : List (Hash × GraphError)) (i : ℕ) (c : ChangeParts)
@@ -23,7 +23,7 @@ next_waits k C W P t r i c e get =
     let w = split_at W i c get in
     record {
       before = w.before;
-      behind = w.behind;
+      beyond = w.beyond;
       waits = w.whole;
       earliest = subst (AllWait C) w.prefix e.before;
       ready = e.ready c get;

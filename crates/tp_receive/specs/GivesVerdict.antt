@@ -1,5 +1,5 @@
 -- What a verdict says, where a cause says whether a change can enter.
-use Rattle.std.specs.Prelude.{◌≡◌, true, Option, Some, None, Result, IsOk}
+use Rattle.std.specs.Prelude.{◌≡◌, Option, Some, None, Result, IsOk, IsTrue}
 use Rattle.tp_receive.specs.Common.{GraphError, MissingDeps}
 use Rattle.tp_receive.specs.declared.verdict.Verdict.{Verdict}
 use Rattle.tp_receive.specs.declared.verdict.Verdict.TheVariants.{Enters, Waits, Refused}
@@ -9,7 +9,7 @@ use Rattle.tp_receive.specs.Receiving.{is_refusal}
 abbrev pub GivesVerdict : Verdict → Option GraphError → Type 0
 GivesVerdict Enters o = o ≡ None
 GivesVerdict Waits o = o ≡ Some MissingDeps
-GivesVerdict (Refused e) o = (o ≡ Some e) × (is_refusal (Some e) ≡ true)
+GivesVerdict (Refused e) o = (o ≡ Some e) × IsTrue (is_refusal (Some e))
 
 -- where the verdict is that the change can enter, the answer was Ok
 abbrev pub IsEntry : Verdict → Result (Unit {0}) GraphError → Type 0

@@ -1,5 +1,5 @@
 -- Receiving, by three rules over what it sees and has reported.
-use Rattle.std.specs.Prelude.{◌≡◌, ◌⊎◌, ℕ, zero, suc, ◌+◌, List, [], ◌∷◌, ◌++◌, length, Bool, true, false, cond, Some, None, nat_lt}
+use Rattle.std.specs.Prelude.{◌≡◌, ◌⊎◌, ℕ, zero, suc, ◌+◌, List, [], ◌∷◌, ◌++◌, length, Bool, false, if◌then◌else◌, Some, None, nat_lt, IsTrue}
 use Rattle.tp_receive.specs.Common.{Hash, ChangeParts, hash_of, GraphError, MissingDeps, has, cause, most_waiting}
 use Rattle.tp_receive.specs.declared.error.ReceiveError.{ReceiveError}
 use Rattle.tp_receive.specs.declared.error.ReceiveError.TheVariants.{PendingFull, NotKept, OutOfMemory}
@@ -19,7 +19,7 @@ pub record Intake (S : Type 0) : Type 0 where
   pub entered : List Hash
   pub refused : List (Hash × GraphError)
 
--- the same, from its parts
+-- the intake of these parts
 abbrev pub intake : {S : Type 0} → S → List ChangeParts → List ChangeParts → List (ChangeParts × Bool) → List Hash → List (Hash × GraphError) → Intake S
 intake k C W P t r = record { keeper = k; applied = C; waiting = W; coming = P; entered = t; refused = r }
 
@@ -37,51 +37,52 @@ refuse s c e = record s { refused = s.refused ++ (hash_of c, e) ∷ [] }
 -- ones it is dropped, and reported as lacking a dependency.
 abbrev pub hold : {S : Type 0} → Intake S → ChangeParts → Intake S
 hold s c =
-    cond (has s.waiting (hash_of c)) s
-    (cond (nat_lt (length s.waiting + slots s.coming) most_waiting) (record s { waiting = s.waiting ++ c ∷ [] }) (refuse s c MissingDeps))
+    if has s.waiting (hash_of c) then s
+    else if nat_lt (length s.waiting + slots s.coming) most_waiting then record s { waiting = s.waiting ++ c ∷ [] }
+    else refuse s c MissingDeps
 
 -- The change c, whose turn it was, took s to t: it entered, and the keeper kept it first; it lacks a dependency; or it
 -- was refused for good.
-abbrev pub Meets : {S : Type 0} → (S → ChangeParts → S → Type 0) → Intake S → ChangeParts → Intake S → Type 0
-Meets {S} keeps s c t =
+abbrev pub DecidesChange : {S : Type 0} → (S → ChangeParts → S → Type 0) → Intake S → ChangeParts → Intake S → Type 0
+DecidesChange {S} keeps s c t =
     ((cause s.applied c ≡ None) × (k : S) × keeps s.keeper c k × (t ≡ enter s c k))
     ⊎ (((cause s.applied c ≡ Some MissingDeps) × (t ≡ hold s c))
-    ⊎ ((e : GraphError) × (cause s.applied c ≡ Some e) × (is_refusal (Some e) ≡ true) × (t ≡ refuse s c e)))
+    ⊎ ((e : GraphError) × (cause s.applied c ≡ Some e) × IsTrue (is_refusal (Some e)) × (t ≡ refuse s c e)))
 
 -- ---- the three rules
 
 -- The earliest waiting change that lacks nothing has its turn.
 pub record NextWaits {S : Type 0} (s : Intake S) (c : ChangeParts) (rest : Intake S) : Type 0 where
   pub before : List ChangeParts
-  pub behind : List ChangeParts
-  pub waits : s.waiting ≡ before ++ c ∷ behind
+  pub beyond : List ChangeParts
+  pub waits : s.waiting ≡ before ++ c ∷ beyond
   pub earliest : AllWait s.applied before
   pub ready : lacks_deps (cause s.applied c) ≡ false
-  pub without : rest ≡ record s { waiting = before ++ behind }
+  pub without : rest ≡ record s { waiting = before ++ beyond }
 
 -- Where there is none, the next that came has its turn.
 pub record NextComes {S : Type 0} (s : Intake S) (c : ChangeParts) (rest : Intake S) : Type 0 where
   pub slot : Bool
-  pub behind : List (ChangeParts × Bool)
-  pub comes : s.coming ≡ (c, slot) ∷ behind
+  pub beyond : List (ChangeParts × Bool)
+  pub comes : s.coming ≡ (c, slot) ∷ beyond
   pub settled : AllWait s.applied s.waiting
-  pub without : rest ≡ record s { coming = behind }
+  pub without : rest ≡ record s { coming = beyond }
 
 -- It ends where none is left: all that waits lacks something, and none is still to come.
-pub record Ends {S : Type 0} (s : Intake S) : Type 0 where
+pub record IsIntakeDone {S : Type 0} (s : Intake S) : Type 0 where
   pub settled : AllWait s.applied s.waiting
   pub came : s.coming ≡ []
 
 -- It is the turn of c, and the rest is s without it.
-abbrev pub Next : {S : Type 0} → Intake S → ChangeParts → Intake S → Type 0
-Next s c rest = NextWaits s c rest ⊎ NextComes s c rest
+abbrev pub NextChange : {S : Type 0} → Intake S → ChangeParts → Intake S → Type 0
+NextChange s c rest = NextWaits s c rest ⊎ NextComes s c rest
 
 -- One change had its turn.
 pub record Turn {S : Type 0} (keeps : S → ChangeParts → S → Type 0) (s t : Intake S) : Type 0 where
   pub change : ChangeParts
   pub rest : Intake S
-  pub next : Next s change rest
-  pub meets : Meets keeps rest change t
+  pub next : NextChange s change rest
+  pub meets : DecidesChange keeps rest change t
 
 -- n changes had their turns, one after another.
 abbrev pub Turns : {S : Type 0} → (S → ChangeParts → S → Type 0) → ℕ → Intake S → Intake S → Type 0
@@ -89,7 +90,7 @@ Turns keeps zero s t = s ≡ t
 Turns {S} keeps (suc n) s t = (m : Intake S) × Turn keeps s m × Turns keeps n m t
 
 -- Some changes had their turns.
-pub record Run {S : Type 0} (keeps : S → ChangeParts → S → Type 0) (s t : Intake S) : Type 0 where
+pub record SomeTurns {S : Type 0} (keeps : S → ChangeParts → S → Type 0) (s t : Intake S) : Type 0 where
   pub count : ℕ
   pub turns : Turns keeps count s t
 
@@ -101,7 +102,7 @@ pub record Receiver (S : Type 0) : Type 0 where
   pub applied : List ChangeParts
   pub waiting : List ChangeParts
 
--- the same, from its parts
+-- the receiver of these parts
 abbrev pub receiver : {S : Type 0} → S → List ChangeParts → List ChangeParts → Receiver S
 receiver k C W = record { keeper = k; applied = C; waiting = W }
 
@@ -113,7 +114,7 @@ begin k C W K = intake k C W (with_slots W (delivery C K)) [] []
 pub record RefusesTurn {S : Type 0} (refuses : S → ChangeParts → KeepError → S → Type 0) (why : KeepError) (at : Intake S) (k : S) : Type 0 where
   pub change : ChangeParts
   pub rest : Intake S
-  pub next : Next at change rest
+  pub next : NextChange at change rest
   pub fits : cause at.applied change ≡ None
   pub refused : refuses at.keeper change why k
 
@@ -126,7 +127,7 @@ StoppedBy refuses OutOfMemory at k = (k ≡ at.keeper) ⊎ RefusesTurn refuses k
 -- A run from s stopped for the refusal, and left t.
 pub record Stops {S : Type 0} (keeps : S → ChangeParts → S → Type 0) (refuses : S → ChangeParts → KeepError → S → Type 0) (s : Intake S) (why : ReceiveError) (t : Receiver S) : Type 0 where
   pub at : Intake S
-  pub run : Run keeps s at
+  pub run : SomeTurns keeps s at
   pub applied : t.applied ≡ at.applied
   pub waiting : t.waiting ≡ at.waiting
   pub by : StoppedBy refuses why at t.keeper

@@ -1,21 +1,21 @@
 -- Receiving changes in any order, as a relation between applied lists.
-use Rattle.std.specs.Prelude.{◌≡◌, ℕ, List, [], ◌∷◌, ◌++◌, Bool, true, false, Option, Some, None, IsSome, cond}
+use Rattle.std.specs.Prelude.{◌≡◌, ℕ, List, [], ◌∷◌, ◌++◌, Bool, true, false, Option, Some, None, IsSome, if◌then◌else◌, IsTrue}
 use Rattle.tp_receive.specs.Common.{slice_get, remove, In, AllIn, Hash, ChangeParts, hash_of, GraphError, MissingDeps, cause, Sound, DocId, Known, BadSeq, BadStart, BadReference, SeqClash, UnknownHead, Full, OutOfMemory, among}
 
--- The changes enter behind `before` one after another: none has a cause at its turn.
+-- The changes enter after `before`, one by one: none has a cause at its turn.
 abbrev pub EntersAfter : List ChangeParts → List ChangeParts → Type 0
 EntersAfter before [] = Unit {0}
 EntersAfter before (c ∷ new) = (cause before c ≡ None) × EntersAfter (before ++ c ∷ []) new
 
 -- The list `long` begins with C.
-abbrev pub Begins : List ChangeParts → List ChangeParts → Type 0
-Begins C long = (new : List ChangeParts) × (long ≡ C ++ new)
+abbrev pub IsPrefixOf : List ChangeParts → List ChangeParts → Type 0
+IsPrefixOf C long = (new : List ChangeParts) × (long ≡ C ++ new)
 
 -- Two changes of K with one actor and sequence number are one.
 abbrev pub SeqsApart : List ChangeParts → Type 0
 SeqsApart K = (c d : ChangeParts) → In c K → In d K → c.actor ≡ d.actor → c.seq ≡ d.seq → c ≡ d
 
--- The list `long` is C and behind it the new changes, which are of K and entered one after another.
+-- The list `long` is C and after it the new changes, which are of K and entered one by one.
 pub record Grows (C K long new : List ChangeParts) : Type 0 where
   pub begins : long ≡ C ++ new
   pub fits : EntersAfter C new
@@ -29,11 +29,11 @@ pub record Receives (C K long : List ChangeParts) : Type 0 where
   pub entered : Grows C K long new
   pub closed : (c : ChangeParts) → In c K → IsSome (cause long c)
 
--- The list `long` stands between C and a result of receiving K.
+-- The list `long` is between C and a result of receiving K.
 pub record Between (C K long : List ChangeParts) : Type 0 where
-  pub begins : Begins C long
+  pub begins : IsPrefixOf C long
   pub whole : List ChangeParts
-  pub goes_on : Begins long whole
+  pub goes_on : IsPrefixOf long whole
   pub receives : Receives C K whole
 
 -- a dependency isn't there
@@ -62,9 +62,9 @@ is_refusal (Some UnknownHead) = true
 is_refusal (Some Full) = true
 is_refusal (Some OutOfMemory) = true
 
--- each change of W waits for a dependency behind C
+-- each change of W waits for a dependency after C
 abbrev pub AllWait : List ChangeParts → List ChangeParts → Type 0
-AllWait C W = (c : ChangeParts) → In c W → lacks_deps (cause C c) ≡ true
+AllWait C W = (c : ChangeParts) → In c W → IsTrue (lacks_deps (cause C c))
 
 -- the hashes of the changes, in their order
 abbrev pub hashes : List ChangeParts → List Hash
@@ -74,9 +74,9 @@ hashes (c ∷ C) = hash_of c ∷ hashes C
 -- the hashes of those changes of W that are among H, in the order of W
 abbrev pub held_of : List Hash → List ChangeParts → List Hash
 held_of H [] = []
-held_of H (c ∷ W) = cond (among H (hash_of c)) (hash_of c ∷ held_of H W) (held_of H W)
+held_of H (c ∷ W) = if among H (hash_of c) then hash_of c ∷ held_of H W else held_of H W
 
--- each of the hashes stands in the list once
+-- each of the hashes is in the list once
 abbrev pub EachOnce : List Hash → Type 0
 EachOnce [] = Unit {0}
 EachOnce (h ∷ H) = (among H h ≡ false) × EachOnce H

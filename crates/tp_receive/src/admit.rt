@@ -2,7 +2,7 @@
 
 ghost use Rattle.std.specs.Prelude.{◌≡◌, ◌++◌, ◌∷◌, [], List, None, OnOk, OnErr, IfOk, IfErr};
 ghost use Rattle.tp_receive.specs.Common.{hash_of, cause, ChangeParts};
-ghost use Rattle.tp_receive.specs.Trying.{Tried, TryFails, so_far};
+ghost use Rattle.tp_receive.specs.Trying.{TriesChange, RefusesTry, so_far};
 
 use crate::error::ReceiveError;
 use crate::keeper::{KeepError, Keeper};
@@ -26,7 +26,7 @@ pub(crate) enum Admission {
 pub(crate) fn keep<K: Keeper>(keeper: &mut K, change: &Change) -> Result<(), ReceiveError>
     ensures ok { OnOk result (K.keeps keeper.old change.now keeper.new) }
     ensures err { (C : List ChangeParts) → cause C change.now ≡ None
-        → IfErr result (λ e. TryFails K.refuses C e change.now keeper.old keeper.new) }
+        → IfErr result (λ e. RefusesTry K.refuses C change.now keeper.old e keeper.new) }
 {
     match keeper.keep(change) {
         Ok(()) => Ok(()),
@@ -52,7 +52,7 @@ fn enter_kept<R: Replica, K: Keeper>(
         (reported.new.applied.items ≡ reported.old.applied.items ++ hash_of change ∷ []) }
     ensures refused { OnOk result (reported.new.refused.items ≡ reported.old.refused.items) }
     ensures err { IfErr result
-        (λ e. TryFails K.refuses (R.applied replica.old) e change keeper.old keeper.new) }
+        (λ e. RefusesTry K.refuses (R.applied replica.old) change keeper.old e keeper.new) }
     ensures stays { OnErr result (R.applied replica.new ≡ R.applied replica.old) }
 {
     reported.applied.push(change.hash())?;
@@ -72,10 +72,10 @@ pub(crate) fn admit<R: Replica, K: Keeper>(
     ensures id { R.id replica.new ≡ R.id replica.old }
     ensures waiting { R.waiting replica.new ≡ R.waiting replica.old }
     ensures ok { IfOk result
-        (λ o. Tried K.keeps (so_far keeper.old (R.applied replica.old) [] [] reported.old) change
+        (λ o. TriesChange K.keeps (so_far keeper.old (R.applied replica.old) [] [] reported.old) change
         (so_far keeper.new (R.applied replica.new) [] [] reported.new) o) }
     ensures err { IfErr result
-        (λ e. TryFails K.refuses (R.applied replica.old) e change keeper.old keeper.new) }
+        (λ e. RefusesTry K.refuses (R.applied replica.old) change keeper.old e keeper.new) }
     ensures stays { OnErr result (R.applied replica.new ≡ R.applied replica.old) }
 {
     match judge(replica.ready(&change))? {

@@ -1,9 +1,9 @@
 //! The slots that are reserved for the changes of a list that are still to come.
 
 ghost use Rattle.std.specs.Prelude.{◌≡◌, ◌++◌, List, length, IfOk, OnOk};
-ghost use Rattle.tp_change.specs.declared.parts.ChangeParts.{ChangeParts};
+ghost use Rattle.tp_layout.specs.declared.parts.ChangeParts.{ChangeParts};
 ghost use Rattle.tp_receive.specs.Common.{Hash as HashOf, zip};
-ghost use Rattle.tp_graph.specs.Named as named;
+ghost use Rattle.tp_history.specs.Named as named;
 ghost use Rattle.tp_receive.specs.HashSets.{has_hash, IsHashSetOf};
 ghost use Rattle.tp_receive.specs.Delivery.{delivery, with_slots};
 ghost use Rattle.tp_receive.specs.Trying.{IsNoted};

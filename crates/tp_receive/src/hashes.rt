@@ -1,7 +1,7 @@
 //! Hashes of changes.
 
 ghost use Rattle.std.specs.Prelude.{◌≡◌, ◌++◌, ◌∷◌, [], ◌||◌, List, true, IfOk, OnOk, IsTrue};
-ghost use Rattle.tp_change.specs.declared.parts.ChangeParts.{ChangeParts};
+ghost use Rattle.tp_layout.specs.declared.parts.ChangeParts.{ChangeParts};
 ghost use Rattle.tp_opid.specs.declared.hash.Hash.{Hash as HashOf};
 ghost use Rattle.tp_opid.specs.Same.{same_hash};
 ghost use Rattle.tp_receive.specs.HashSets.{has_hash, IsHashSetOf};
@@ -57,7 +57,7 @@ fn put_in(sorted: &mut BTreeSet<Hash>, late: &[Hash]) -> Result<(), AllocError>
 }
 
 impl HashSet {
-    /// No hash, and room for so many.
+    /// No hash, and room for `room`.
     pub(crate) fn with_room(alloc: Global, room: usize) -> Result<HashSet, AllocError>
         ensures { IfOk result (λ set. set ≡ []) }
     {
@@ -69,7 +69,7 @@ impl HashSet {
 
     /// Whether the hash is one of the last few that were added. One that isn't may be there. A comparison for each.
     pub(crate) fn is_recent(&self, hash: &Hash) -> bool
-        ensures { IsTrue result → has_hash self.now hash.now ≡ true }
+        ensures { IsTrue result → IsTrue (has_hash self.now hash.now) }
     {
         let count = self.late.len();
         for i in 0..RECENT.min(count) {
@@ -142,7 +142,7 @@ impl Model for Sorted {
 }
 
 impl Sorted {
-    // The hashes of the list, put in order where they stand. It takes no memory, and whatever hashes strangers choose a
+    // The hashes of the list, put in order where they are. It takes no memory, and whatever hashes strangers choose a
     // number of comparisons that grows as n log n.
     fn of(hashes: Vec<Hash>) -> Sorted
         ensures { (h : HashOf) → has_hash result h ≡ has_hash hashes.items h }

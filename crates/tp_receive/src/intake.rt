@@ -2,10 +2,10 @@
 
 ghost use Rattle.std.specs.Prelude.{◌≡◌, [], length, Some, OnOk, IfErr};
 ghost use Rattle.tp_receive.specs.Common.{zip};
-ghost use Rattle.tp_graph.specs.Sound.{Sound};
+ghost use Rattle.tp_history.specs.Sound.{Sound};
 ghost use Rattle.tp_receive.specs.Receiving.{AllWait};
 ghost use Rattle.tp_receive.specs.Delivery as delivery;
-ghost use Rattle.tp_receive.specs.Intake.{Run, Stops, receiver};
+ghost use Rattle.tp_receive.specs.Intake.{SomeTurns, Stops, receiver};
 ghost use Rattle.tp_receive.specs.Lacking.{KnowsLack};
 ghost use Rattle.tp_receive.specs.Outcome.{HasOutcome, ReceivesWith};
 ghost use Rattle.tp_receive.specs.Trying.{so_far};
@@ -24,7 +24,7 @@ use tp_change::Change;
 use tp_graph::{GraphError, MOST_WAITING};
 use tp_opid::Hash;
 
-// Gives the pending changes and then those that come their turns, until none is left. At each turn the slots behind it
+// Gives the pending changes and then those that come their turns, until none is left. At each turn the slots after it
 // stay reserved.
 fn take_all<R: Replica, K: Keeper>(
     replica: &mut R,
@@ -38,7 +38,7 @@ fn take_all<R: Replica, K: Keeper>(
     requires count { slots.now.reserved ≡ delivery.slots (zip changes.items slots.now.marks.items) }
     requires knows { KnowsLack (R.applied replica.old) (R.waiting replica.old) lacking.old }
     ensures id { R.id replica.new ≡ R.id replica.old }
-    ensures ok { OnOk result (Run K.keeps
+    ensures ok { OnOk result (SomeTurns K.keeps
         (so_far keeper.old (R.applied replica.old) (R.waiting replica.old)
         (zip changes.items slots.now.marks.items) reported.old)
         (so_far keeper.new (R.applied replica.new) (R.waiting replica.new) [] reported.new)) }
@@ -69,8 +69,8 @@ pub struct Applied {
     pub applied: Vec<Hash>,
     /// The hashes of those that came and wait now, each once, in the order in which they wait.
     pub held: Vec<Hash>,
-    /// The hashes of those that were refused, each with its cause. `MissingDeps` stands with those that had to wait
-    /// and were dropped for want of space.
+    /// The hashes of those that were refused, each with its cause. `MissingDeps` is reported with those that had to
+    /// wait and were dropped for want of space.
     pub refused: Vec<(Hash, GraphError)>,
 }
 
@@ -95,12 +95,12 @@ pub struct Applied {
 /// [`laws`](crate::laws) for this and for more that follows.
 ///
 /// `NotKept` and `OutOfMemory` stop at some turn: what entered until then stays, and of what waited, also since the
-/// call began, nothing is lost. Only the change of the list whose turn it was and those behind it are let go: they have
+/// call began, nothing is lost. Only the change of the list whose turn it was and those after it are let go: they have
 /// to come again.
 ///
 /// The dependencies of a pending change are looked up once, and again where the one that it was found to lack entered, or
-/// a change with its own hash; it is judged once, at its turn. Any other entry costs one comparison of hashes for each pending change, of which there are 1,024 at
-/// most, and one more where the change that entered came with this call.
+/// a change with its own hash; it is judged once, at its turn. Any other entry costs one comparison of hashes for each
+/// pending change, of which there are 1,024 at most, and one more where the change that entered came with this call.
 pub fn receive<R: Replica, K: Keeper>(
     alloc: Global,
     replica: &mut R,

@@ -2,7 +2,7 @@
 
 ghost use Rattle.std.specs.Prelude.{◌≡◌, OnOk, IfErr};
 ghost use Rattle.tp_receive.specs.declared.keeper.KeepError.{KeepError};
-ghost use Rattle.tp_change.specs.declared.parts.ChangeParts.{ChangeParts};
+ghost use Rattle.tp_layout.specs.declared.parts.ChangeParts.{ChangeParts};
 
 use thiserror::Error;
 use tp_change::Change;

@@ -1,10 +1,10 @@
 //! What the pending changes are known to lack: one of them isn't looked at again before that came.
 
-ghost use Rattle.std.specs.Prelude.{◌≡◌, ◌<◌, ◌++◌, ◌∷◌, [], List, Option, Some, None, true, false, length, set, take, IfOk, MatchOption};
+ghost use Rattle.std.specs.Prelude.{◌≡◌, ◌<◌, ◌++◌, ◌∷◌, [], List, Option, Some, None, false, length, set, take, IfOk, MatchOption, IsTrue};
 ghost use Rattle.tp_receive.specs.Common.{slice_get, remove, In, ChangeParts};
 ghost use Rattle.std.specs.Option.{is_some};
 ghost use Rattle.tp_opid.specs.declared.hash.Hash.{Hash as HashOf};
-ghost use Rattle.tp_graph.specs.Named as named;
+ghost use Rattle.tp_history.specs.Named as named;
 ghost use Rattle.tp_receive.specs.Receiving.{AllWait};
 ghost use Rattle.tp_receive.specs.Lacking.{GainsOnly, KnowsApart, KnowsLack, lacks_it};
 
@@ -85,9 +85,9 @@ impl Lacking {
         }
     }
 
-    /// A change with the hash entered, and no pending change of which something is known has that hash: what is known of
-    /// those that lacked it isn't known any more. Returns how many, from the first on, are known to lack another. One
-    /// comparison of hashes for each pending change.
+    /// A change with the hash entered, and no pending change that is known to lack another has that hash: what is known
+    /// of those that lacked it isn't known any more. Returns how many, from the first on, are known to lack another.
+    /// One comparison of hashes for each pending change.
     pub(crate) fn forget_lacked(&mut self, entered: &Hash) -> usize
         ensures knows { (C D W : List ChangeParts) → GainsOnly C D entered.now
             → KnowsApart C entered.now W self.old → KnowsLack D W self.new }
@@ -118,7 +118,7 @@ fn is_lacked(lack: &Option<Hash>, entered: &Hash) -> bool
 
 /// The first dependency of the change that isn't there, or None where each is. A look-up for each dependency up to it.
 pub(crate) fn lack_of<R: Replica>(replica: &R, change: &Change) -> Option<Hash>
-    ensures { MatchOption result (named.has_all (R.applied replica.now) change.now.deps ≡ true)
+    ensures { MatchOption result (IsTrue (named.has_all (R.applied replica.now) change.now.deps))
         (λ h. In h change.now.deps × (named.has (R.applied replica.now) h ≡ false)) }
 {
     for hash in change.deps() {

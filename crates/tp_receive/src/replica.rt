@@ -1,8 +1,8 @@
 //! What receives changes: applied changes, and changes that wait.
 
 ghost use Rattle.std.specs.Prelude.{◌≡◌, ◌<◌, ◌≤◌, ◌++◌, ◌∷◌, [], ℕ, List, Option, Some, None, false, length, is_ok, if◌then◌else◌, IfErr, OnOk, OnErr};
-ghost use Rattle.tp_receive.specs.Common.{slice_get, ChangeParts, hash_of, cause, Sound, most_waiting, DocId, Answers, HashesOnce};
-ghost use Rattle.tp_graph.specs.Named as named;
+ghost use Rattle.tp_receive.specs.Common.{slice_get, ChangeParts, hash_of, cause, Sound, most_waiting, DocId, MatchesCause, HashesOnce};
+ghost use Rattle.tp_history.specs.Named as named;
 ghost use Rattle.tp_receive.specs.Receiving.{IsSeenAs, IsTakenOut};
 
 use tp_change::Change;
@@ -24,7 +24,7 @@ pub trait Replica: Drop {
     /// Every growth that the entry of the change takes is made.
     ghost has_room: { Self → ChangeParts → Type 0 };
 
-    /// The applied changes: dependencies stand before dependents.
+    /// The applied changes: dependencies come before dependents.
     fn changes(&self) -> &[Change]
         ensures changes { result.now ≡ applied self.now }
         ensures sound { Sound (applied self.now) };
@@ -42,7 +42,7 @@ pub trait Replica: Drop {
     /// Whether the change can enter, or why not, with every growth that its entry takes made. It may be refused as
     /// `OutOfMemory` whatever the change.
     fn ready(&mut self, change: &Change) -> Result<(), GraphError>
-        ensures answers { Answers result (cause (applied self.old) change.now) }
+        ensures answers { MatchesCause result (cause (applied self.old) change.now) }
         ensures stays { IsSeenAs id applied waiting self.old self.new }
         ensures room { OnOk result (has_room self.new change.now) };
 
@@ -51,7 +51,7 @@ pub trait Replica: Drop {
     fn ready_waiting(&mut self, i: usize) -> Result<(), GraphError>
         requires { i < length (waiting self.old) }
         ensures answers { (c : ChangeParts) → slice_get (waiting self.old) i ≡ Some c
-            → Answers result (cause (applied self.old) c) }
+            → MatchesCause result (cause (applied self.old) c) }
         ensures stays { IsSeenAs id applied waiting self.old self.new }
         ensures room { (c : ChangeParts) → slice_get (waiting self.old) i ≡ Some c
             → OnOk result (has_room self.new c) };
@@ -64,7 +64,7 @@ pub trait Replica: Drop {
         ensures applied { applied self.new ≡ applied self.old ++ change ∷ [] }
         ensures waiting { waiting self.new ≡ waiting self.old };
 
-    /// Keeps a change that waits, behind those that wait already, of which there are fewer than 1,024, none with
+    /// Keeps a change that waits, after those that wait already, of which there are fewer than 1,024, none with
     /// its hash. The only refusal is for want of memory, and leaves what waits as it was.
     fn hold(&mut self, change: Change) -> Result<(), Rejected>
         requires few { length (waiting self.old) < most_waiting }

@@ -2,9 +2,9 @@
 
 ghost use Rattle.std.specs.Prelude.{◌≡◌, ◌+◌, ◌<◌, ◌++◌, ◌∷◌, [], Bool, List, None, Some, length, take, OnOk, OnErr, IfOk, IfErr, MatchOption};
 ghost use Rattle.tp_receive.specs.Common.{slice_get, remove, ChangeParts, hash_of, cause};
-ghost use Rattle.tp_receive.specs.Trying.{IsEarliest, Tried, TryFails, so_far};
+ghost use Rattle.tp_receive.specs.Trying.{IsEarliest, TriesChange, RefusesTry, so_far};
 ghost use Rattle.tp_receive.specs.Receiving.{AllWait, lacks_deps};
-ghost use Rattle.tp_receive.specs.Intake.{Run, Stops, Turn, receiver};
+ghost use Rattle.tp_receive.specs.Intake.{SomeTurns, Stops, Turn, receiver};
 ghost use Rattle.tp_receive.specs.Lacking.{GainsOnly, KnowsLack};
 
 use crate::admit::{Admission, keep};
@@ -74,12 +74,12 @@ fn enter_waiting<R: Replica, K: Keeper>(
         → R.has_room replica.old c }
     ensures id { R.id replica.new ≡ R.id replica.old }
     ensures ok { (c : ChangeParts) → slice_get (R.waiting replica.old) i ≡ Some c
-        → OnOk result (Tried K.keeps
+        → OnOk result (TriesChange K.keeps
         (so_far keeper.old (R.applied replica.old) [] [] reported.old) c
         (so_far keeper.new (R.applied replica.new) [] [] reported.new) Admission.Entered) }
     ensures out { OnOk result (R.waiting replica.new ≡ remove (R.waiting replica.old) i) }
     ensures err { (c : ChangeParts) → slice_get (R.waiting replica.old) i ≡ Some c
-        → IfErr result (λ e. TryFails K.refuses (R.applied replica.old) e c keeper.old keeper.new) }
+        → IfErr result (λ e. RefusesTry K.refuses (R.applied replica.old) c keeper.old e keeper.new) }
     ensures applied { OnErr result (R.applied replica.new ≡ R.applied replica.old) }
     ensures waiting { OnErr result (R.waiting replica.new ≡ R.waiting replica.old) }
 {
@@ -188,7 +188,7 @@ pub(crate) fn settle<R: Replica, K: Keeper>(
     requires knows { KnowsLack (R.applied replica.old) (R.waiting replica.old) lacking.old }
     requires waits { AllWait (R.applied replica.old) (take from (R.waiting replica.old)) }
     ensures id { R.id replica.new ≡ R.id replica.old }
-    ensures ok { (P : List (ChangeParts × Bool)) → OnOk result (Run K.keeps
+    ensures ok { (P : List (ChangeParts × Bool)) → OnOk result (SomeTurns K.keeps
         (so_far keeper.old (R.applied replica.old) (R.waiting replica.old) P reported.old)
         (so_far keeper.new (R.applied replica.new) (R.waiting replica.new) P reported.new)) }
     ensures settled { OnOk result (AllWait (R.applied replica.new) (R.waiting replica.new)) }

@@ -1,13 +1,13 @@
 //! Taking one change that came.
 
 ghost use Rattle.std.specs.Prelude.{◌≡◌, ◌∷◌, Bool, List, OnOk, OnErr, IfErr};
-ghost use Rattle.tp_change.specs.declared.parts.ChangeParts.{ChangeParts};
-ghost use Rattle.tp_graph.specs.Named as named;
+ghost use Rattle.tp_layout.specs.declared.parts.ChangeParts.{ChangeParts};
+ghost use Rattle.tp_history.specs.Named as named;
 ghost use Rattle.tp_receive.specs.Receiving.{AllWait};
 ghost use Rattle.tp_receive.specs.Delivery.{slots};
-ghost use Rattle.tp_receive.specs.Intake.{Run, Stops, receiver};
+ghost use Rattle.tp_receive.specs.Intake.{SomeTurns, Stops, receiver};
 ghost use Rattle.tp_receive.specs.Lacking.{KnowsLack};
-ghost use Rattle.tp_receive.specs.Trying.{IsHeld, so_far};
+ghost use Rattle.tp_receive.specs.Trying.{WaitsOrIsDropped, so_far};
 
 use crate::admit::{Admission, admit};
 use crate::error::ReceiveError;
@@ -47,7 +47,7 @@ fn let_wait<R: Replica>(
     ensures applied { R.applied replica.new ≡ R.applied replica.old }
     ensures reported { reported.new.applied.items ≡ reported.old.applied.items }
     ensures ok { OnOk result
-        (IsHeld (R.waiting replica.old) change reserved (R.waiting replica.new)
+        (WaitsOrIsDropped (R.waiting replica.old) change reserved (R.waiting replica.new)
         reported.old.refused.items reported.new.refused.items) }
     ensures err { IfErr result (λ e. e ≡ ReceiveError.OutOfMemory) }
     ensures stays { OnErr result (R.waiting replica.new ≡ R.waiting replica.old) }
@@ -86,7 +86,7 @@ pub(crate) fn take<R: Replica, K: Keeper>(
     requires knows { KnowsLack (R.applied replica.old) (R.waiting replica.old) lacking.old }
     ensures id { R.id replica.new ≡ R.id replica.old }
     ensures ok { (slot : Bool) (P : List (ChangeParts × Bool)) → reserved ≡ slots P
-        → OnOk result (Run K.keeps
+        → OnOk result (SomeTurns K.keeps
         (so_far keeper.old (R.applied replica.old) (R.waiting replica.old)
         ((change, slot) ∷ P) reported.old)
         (so_far keeper.new (R.applied replica.new) (R.waiting replica.new) P reported.new)) }

@@ -1,7 +1,7 @@
 //! What an answer on a change says of it.
 
 ghost use Rattle.std.specs.Prelude.{◌≡◌, Option, IfOk, IfErr};
-ghost use Rattle.tp_receive.specs.Common.{GraphError, Answers};
+ghost use Rattle.tp_receive.specs.Common.{GraphError, MatchesCause};
 ghost use Rattle.tp_receive.specs.GivesVerdict.{GivesVerdict, IsEntry};
 
 use crate::error::ReceiveError;
@@ -20,7 +20,7 @@ pub(crate) enum Verdict {
 
 /// What an answer says of the change, or that memory was refused.
 pub(crate) fn judge(answer: Result<(), GraphError>) -> Result<Verdict, ReceiveError>
-    ensures ok { (o : Option GraphError) → Answers answer o → IfOk result (λ v. GivesVerdict v o) }
+    ensures ok { (o : Option GraphError) → MatchesCause answer o → IfOk result (λ v. GivesVerdict v o) }
     ensures entry { IfOk result (λ v. IsEntry v answer) }
     ensures err { IfErr result (λ e. e ≡ ReceiveError.OutOfMemory) }
 {

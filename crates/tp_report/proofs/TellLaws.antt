@@ -10,11 +10,12 @@ use Rattle.std.proofs.lemmas.List.{nil_from_length}
 use Rattle.tp_textpeer.specs.Output.{AppendsPart}
 use Rattle.tp_command_line.specs.declared.job.Subject.{Subject}
 use Rattle.tp_opid.specs.declared.hash.Hash.{Hash}
-use Rattle.tp_commands.specs.Reading.{hash_line, line, lines_of_made}
+use Rattle.tp_commands.specs.Reading.{hash_line, lines_of_made}
 use Rattle.tp_report.specs.Names.{refusal_lines}
 use Rattle.tp_report.specs.Notes.{IsNote, no_memory_note}
 use Rattle.tp_report.specs.Telling.{GrowsPart, IsToldOf, with_cut}
 use Rattle.tp_report.specs.declared.error.JobError.{JobError}
+use Rattle.tp_list.specs.Bytes.{line}
 
 -- what stayed grew by none of the bytes
 pub part_of_none : (old new : Option (List ℕ)) (bs : List ℕ) → Keeps old new → AppendsPart old new bs
@@ -25,11 +26,11 @@ part_of_none old new bs kept = record { part = []; rest = bs; begins = refl; gro
     appended (Some x) None h = absurd h
     appended (Some x) (Some y) h = h ∙ sym (append-nil x)
 
--- nothing is told of a refusal
-pub nothing_told : (e : JobError) (note file : List ℕ) (cut : Option ℕ) (held : Option (List ℕ)) → GrowsPart (IsToldOf note file cut e) held held
-nothing_told e note file cut held =
-    let told = with_cut (refusal_lines e) file cut ++ note in
-    (told, inl refl, record { part = []; rest = told; begins = refl; grown = Appends-nil held })
+-- nothing is written of a refusal
+pub nothing_reported : (e : JobError) (note file : List ℕ) (cut : Option ℕ) (held : Option (List ℕ)) → GrowsPart (IsToldOf note file cut e) held held
+nothing_reported e note file cut held =
+    let reported = with_cut (refusal_lines e) file cut ++ note in
+    (reported, inl refl, record { part = []; rest = reported; begins = refl; grown = Appends-nil held })
 
 -- a line that was refused, or written in part
 pub part_of_line : {A S E F : Type 0} (done : Result A E) (printed : Result S F) (bytes : S → List ℕ) (is : E → Type 0) (line : List ℕ) (old new : Option (List ℕ))
@@ -42,15 +43,15 @@ part_of_line (Err e) (Ok l) bytes is line old new spelled wrote =
 part_of_line (Err e) (Err f) bytes is line old new spelled wrote = ⊎_elim (λ kept. part_of_none old new line kept) (λ part. absurd part.1) wrote
 
 -- a line that was written, or refused, or written in part
-pub part_told : {A S E F : Type 0} (done : Result A E) (printed : Result S F) (bytes : S → List ℕ) (is : E → Type 0) (line : List ℕ) (old new : Option (List ℕ))
+pub part_reported : {A S E F : Type 0} (done : Result A E) (printed : Result S F) (bytes : S → List ℕ) (is : E → Type 0) (line : List ℕ) (old new : Option (List ℕ))
     → IfOk printed (λ l. bytes l ≡ line)
     → OnOk done (IsOkAnd printed (λ l. Appends old new (bytes l)))
     → IfErr done (λ e. Keeps old new ⊎ (is e × IsOkAnd printed (λ l. AppendsPart old new (bytes l))))
     → AppendsPart old new line
-part_told (Ok x) (Ok l) bytes is line old new spelled whole wrote =
+part_reported (Ok x) (Ok l) bytes is line old new spelled whole wrote =
     subst (AppendsPart old new) spelled (record { part = bytes l; rest = []; begins = sym (append-nil (bytes l)); grown = whole })
-part_told (Ok x) (Err f) bytes is line old new spelled whole wrote = absurd whole
-part_told (Err e) printed bytes is line old new spelled whole wrote = part_of_line {A = ℕ} (Err e) printed bytes is line old new spelled wrote
+part_reported (Ok x) (Err f) bytes is line old new spelled whole wrote = absurd whole
+part_reported (Err e) printed bytes is line old new spelled whole wrote = part_of_line {A = ℕ} (Err e) printed bytes is line old new spelled wrote
 
 -- how the line is spelled that says where bytes are kept that were cut off
 pub cut_line : (text file number : List ℕ)

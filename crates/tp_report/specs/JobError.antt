@@ -14,12 +14,12 @@ use Rattle.tp_report.specs.declared.error.JobError.TheVariants.{Command, Show, L
 use Rattle.tp_report.specs.declared.error.Made.{Made}
 
 -- a file or the output failed
-abbrev pub failed : JobError
-failed = Command command.Io
+abbrev pub io_failure : JobError
+io_failure = Command command.Io
 
 -- The output failed, or was closed by who read it.
 abbrev pub IsOutputFault : JobError → Type 0
-IsOutputFault e = (e ≡ failed) ⊎ (e ≡ Closed)
+IsOutputFault e = (e ≡ io_failure) ⊎ (e ≡ Closed)
 
 -- so it was, or what was made before isn't said
 abbrev pub IsOfOutput : JobError → Type 0
@@ -46,7 +46,7 @@ code_of (Unsaid made) = 2
 
 -- a refusal of a log, unless the log isn't at fault
 abbrev pub refusal_by : ShowFault → ShowError → JobError
-refusal_by show.Io e = failed
+refusal_by show.Io e = io_failure
 refusal_by show.OutOfMemory e = no_memory
 refusal_by fault e = Show (record { 0 = e })
 
@@ -55,11 +55,11 @@ refusal_of_log e = refusal_by e.fault e
 
 abbrev pub refusal_of_script : SimError → JobError
 refusal_of_script (script.Line number) = Line number
-refusal_of_script script.Io = failed
+refusal_of_script script.Io = io_failure
 refusal_of_script script.OutOfMemory = no_memory
 
 abbrev pub refusal_of_session : NetError → JobError
-refusal_of_session net.Io = failed
+refusal_of_session net.Io = io_failure
 refusal_of_session net.OutOfMemory = no_memory
 refusal_of_session (net.Peer e) = Command (refusal_of_peer e)
 refusal_of_session e = Session e

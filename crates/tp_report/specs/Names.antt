@@ -5,18 +5,19 @@ use Rattle.std.specs.Fmt.{decimal}
 use Rattle.hex.specs.Hex.{encode_lower}
 use Rattle.std.specs.Net.Text.{socket_text}
 use Rattle.tp_opid.specs.declared.hash.Hash.{Hash}
-use Rattle.tp_commands.specs.Reading.{hash_line, line}
+use Rattle.tp_commands.specs.Reading.{hash_line}
 use Rattle.tp_net.specs.declared.gate.Report.{Report}
 use Rattle.tp_commands.specs.declared.error.CommandError.{CommandError}
 use Rattle.tp_commands.specs.declared.error.CommandError.TheVariants.{Io, OutOfMemory, Peer, Doc, Store, Busy, NotText, NotEmpty}
 use Rattle.tp_session.specs.declared.error.NetError.{NetError}
 use Rattle.tp_session.specs.declared.error.NetError.TheVariants as net
 use Rattle.tp_simulate.specs.Names.{name_of_bytes, name_of_document, name_of_peer}
-use Rattle.tp_textpeer.specs.Refusal.{refusal_text as text_of_log_refusal}
+use Rattle.tp_textpeer.specs.Refusal.{show_refusal_text as text_of_log_refusal}
 use Rattle.tp_report.specs.declared.error.JobError.{JobError}
 use Rattle.tp_report.specs.declared.error.JobError.TheVariants.{Command, Show, Line, Session, Unreached, Closed, Unsaid}
 use Rattle.tp_report.specs.declared.error.Made.{Made}
 use Rattle.tp_report.specs.declared.error.Made.TheVariants.{Document, Change, Changes}
+use Rattle.tp_list.specs.Bytes.{line}
 
 -- of what a layer below refused, the innermost refusal's name
 abbrev pub name_of_command : CommandError → List ℕ
@@ -85,6 +86,6 @@ abbrev pub WasMade : (List ℕ → Type 0) → JobError → Type 0
 WasMade P (Unsaid made) = P (output_of_made made)
 WasMade P e = Unit {0}
 
--- what is told of a refusal: its line, and others where something was made that isn't said
+-- what is printed of a refusal: its line, and others where something was made that isn't said
 abbrev pub refusal_lines : JobError → List ℕ
 refusal_lines e = line (refusal_text e) ++ made_text e

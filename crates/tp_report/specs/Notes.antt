@@ -2,7 +2,6 @@
 use Rattle.std.specs.Prelude.{◌≡◌, ◌⊎◌, ◌++◌, ℕ, Bool, true, false, List, [], ◌∷◌, Option, Some, None, codes}
 use Rattle.std.specs.Fmt.{decimal}
 use Rattle.std.specs.Borrow.{Bor}
-use Rattle.tp_commands.specs.Reading.{line}
 use Rattle.tp_commands.specs.declared.error.CommandError.TheVariants.{Io, OutOfMemory, Peer, Doc, Store, NotText}
 use Rattle.tp_document.specs.declared.error.DocError.TheVariants.{OtherDocument}
 use Rattle.tp_peer.specs.declared.error.PeerError.TheVariants.{JournalNotEmpty}
@@ -13,6 +12,7 @@ use Rattle.tp_report.specs.declared.error.JobError.TheVariants.{Command, Show as
 use Rattle.tp_command_line.specs.declared.job.Beside.{Beside}
 use Rattle.tp_command_line.specs.declared.job.Beside.TheVariants.{Read, Made}
 use Rattle.tp_command_line.specs.declared.job.Subject.{Subject}
+use Rattle.tp_list.specs.Bytes.{line}
 
 -- The file that a refusal is about: the one beside the first, where its bytes don't recover or are no text, where it is of
 -- another document, or where it was to be made and something is there already; and else the first.

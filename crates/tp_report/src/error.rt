@@ -47,8 +47,9 @@ pub enum JobError {
 }
 
 impl JobError {
-    /// The number of the refusal, behind those of values: 2 `Io`, also where the output is closed, 3 `OutOfMemory`, then what a
-    /// peer, a document or the bytes of a file were refused for, `Busy`, a log, a script, a session, `NotText`, `NotEmpty`.
+    /// The number of the refusal, after those of values: 2 `Io`, also where the output is closed, 3 `OutOfMemory`, then
+    /// what a peer, a document or the bytes of a file were refused for, `Busy`, a log, a script, a session, `NotText`,
+    /// `NotEmpty`.
     pub fn code(&self) -> u8
         ensures { result ≡ code_of self.now }
     {

@@ -2,6 +2,7 @@
 //! a journal, and how a terminal shows it.
 #![tactic(auto)]
 
+mod advice;
 mod error;
 mod log;
 mod notes;
@@ -12,6 +13,6 @@ pub use error::{JobError, Made};
 pub use log::{Log, tell_followed};
 pub use notes::{note, note_text};
 pub use telling::{
-    DONE, REFUSED, applied_text, ended, ended_with, output_refusal, put, put_made, report,
+    DONE, REFUSED, applied_text, ended_with, exit_status, output_refusal, put, put_made, report,
 };
 pub use terminal::Shown;

@@ -1,10 +1,11 @@
 //! What is said below the line of a refusal, where that is asked for: which file it is about, and what to do.
 
-ghost use Rattle.std.specs.Prelude.{◌≡◌, ◌++◌, IfOk, MatchResult, OnErr, true, codes};
+ghost use Rattle.std.specs.Prelude.{◌≡◌, IfOk, MatchResult, OnErr, true, IsTrue};
 ghost use Rattle.std.specs.String.{string_bytes};
-ghost use Rattle.tp_commands.specs.Reading.{line};
 ghost use Rattle.tp_report.specs.Notes.{IsNote, IsNoteOf, names_file as is_file_named, no_memory_note, path_at_fault as path_of_fault, fault_place as text_of_fault_place};
+ghost use Rattle.tp_list.specs.Bytes.{line};
 
+use crate::advice::advice;
 use crate::error::JobError;
 use std::alloc::{AllocError, Global};
 use tp_command_line::{Beside, Hosting, Subject};
@@ -91,7 +92,7 @@ fn script_advice<D: Disk + AllocGlobal>(
     }
 }
 
-// What the system says of the files, of which one can't be opened.
+// What the system says of the files, where one of them can't be opened.
 fn system_advice<D: Disk + AllocGlobal>(
     rt: &D,
     subject: &Subject<'_>,
@@ -124,7 +125,7 @@ fn busy_advice<D: Disk + AllocGlobal>(rt: &D, file: &str) -> Result<String, Allo
         Lock::HeldBy(process) => {
             format!(in rt.alloc(); "process {process} has it open; nothing was changed")
         }
-        _ => String::from_str(rt.alloc(), CommandError::Busy.advice()),
+        _ => String::from_str(rt.alloc(), advice(CommandError::Busy)),
     }
 }
 
@@ -147,7 +148,7 @@ fn sentence<D: Disk + AllocGlobal>(
     let text = match error {
         JobError::Command(CommandError::Io) => return system_advice(rt, subject),
         JobError::Command(CommandError::Busy) => return busy_advice(rt, subject.file),
-        JobError::Command(error) => error.advice(),
+        JobError::Command(error) => advice(*error),
         JobError::Line(number) => return script_advice(rt, subject.file, *number),
         JobError::Show(_) => "each change has to be whole, and to follow the one before it",
         JobError::Session(error) => session_advice(*error),
@@ -230,7 +231,7 @@ pub fn note<D: Disk + AllocGlobal>(
     error: &JobError,
 ) -> Result<String, AllocError>
     ensures said { IfOk result (λ n. IsNote explains subject.now error.now (string_bytes n)) }
-    ensures quiet { OnErr result (explains ≡ true) }
+    ensures quiet { OnErr result (IsTrue explains) }
 {
     if explains {
         note_line(rt, subject, error)

@@ -25,10 +25,10 @@ pub const DONE: u8 = 0;
 pub const REFUSED: u8 = 1;
 
 /// The exit status of what was done or refused, once the refusal is printed.
-pub fn ended<E: Write>(alloc: Global, done: Result<(), JobError>, err: &mut E) -> u8
+pub fn exit_status<E: Write>(alloc: Global, done: Result<(), JobError>, err: &mut E) -> u8
     ensures status { MatchResult done (λ _. result ≡ DONE) (λ _. result ≡ REFUSED) }
     ensures quiet { OnOk done (Keeps (E.contents err.old) (E.contents err.new)) }
-    ensures told { IfErr done
+    ensures reported { IfErr done
         (λ e. GrowsPart (IsLineOf e) (E.contents err.old) (E.contents err.new)) }
 {
     match done {
@@ -48,7 +48,7 @@ pub fn ended_with<E: Write>(
     err: &mut E,
 ) -> u8
     ensures status { result ≡ REFUSED }
-    ensures told { GrowsPart (IsToldOf note.now file.now cut error)
+    ensures reported { GrowsPart (IsToldOf note.now file.now cut error)
         (E.contents err.old) (E.contents err.new) }
 {
     match (error, cut) {
@@ -76,49 +76,62 @@ fn with_cut(
     }
 }
 
-/// The line of how many changes entered, where that is told.
-pub fn applied_text(alloc: Global, told: Option<u64>) -> Result<String, CommandError>
-    ensures { IfOk result (λ t. string_bytes t ≡ text_of_applied told) }
+/// The line of how many changes entered, where that is given.
+pub fn applied_text(alloc: Global, reported: Option<u64>) -> Result<String, CommandError>
+    ensures { IfOk result (λ t. string_bytes t ≡ text_of_applied reported) }
 {
-    match told {
+    match reported {
         Some(applied) => Ok(format!(in alloc; "applied {applied}\n")?),
         None => Ok(String::new(alloc)),
     }
 }
 
-// The lines of what is told of what was done.
+// The lines of the report of what was done.
 fn report_text(
     alloc: Global,
     file: &str,
     cut: Option<u64>,
-    told: Option<u64>,
+    reported: Option<u64>,
 ) -> Result<String, CommandError>
     ensures { IfOk result
-        (λ t. string_bytes t ≡ text_with_cut (text_of_applied told) file.now cut) }
+        (λ t. string_bytes t ≡ text_with_cut (text_of_applied reported) file.now cut) }
 {
-    with_cut(alloc, applied_text(alloc, told)?, file, cut)
+    with_cut(alloc, applied_text(alloc, reported)?, file, cut)
 }
 
-/// Says how many changes entered, where that is told, and where bytes are kept that were cut off the journal at the path.
-pub fn report<E: Write>(alloc: Global, file: &str, cut: Option<u64>, told: Option<u64>, err: &mut E)
-    ensures { Reports file.now cut told (E.contents err.old) (E.contents err.new) }
+/// Says how many changes entered, where that is given, and where bytes are kept that were cut off the journal at the
+/// path.
+pub fn report<E: Write>(
+    alloc: Global,
+    file: &str,
+    cut: Option<u64>,
+    reported: Option<u64>,
+    err: &mut E,
+)
+    ensures { Reports file.now cut reported (E.contents err.old) (E.contents err.new) }
 {
-    match (cut, told) {
+    match (cut, reported) {
         (None, None) => {}
-        (Some(at), told) => put_report(alloc, file, Some(at), told, err),
+        (Some(at), reported) => put_report(alloc, file, Some(at), reported, err),
         (None, Some(applied)) => put_report(alloc, file, None, Some(applied), err),
     }
 }
 
-// Writes the lines of what is told of what was done, or a beginning of them.
-fn put_report<E: Write>(alloc: Global, file: &str, cut: Option<u64>, told: Option<u64>, err: &mut E)
+// Writes the lines of the report of what was done, or a beginning of them.
+fn put_report<E: Write>(
+    alloc: Global,
+    file: &str,
+    cut: Option<u64>,
+    reported: Option<u64>,
+    err: &mut E,
+)
     ensures { AppendsPart (E.contents err.old) (E.contents err.new)
-        (text_with_cut (text_of_applied told) file.now cut) }
+        (text_with_cut (text_of_applied reported) file.now cut) }
 {
-    let _ = put(err, report_text(alloc, file, cut, told));
+    let _ = put(err, report_text(alloc, file, cut, reported));
 }
 
-// Writes what is told of a refusal, or the line of `OutOfMemory` where there is no memory for that.
+// Writes what is printed of a refusal, or the line of `OutOfMemory` where there is no memory for that.
 fn tell<E: Write>(
     alloc: Global,
     error: JobError,

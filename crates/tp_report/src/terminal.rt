@@ -39,7 +39,7 @@ impl<W: Write> Shown<W> {
         self.writer.write_all(text.as_str().as_bytes())
     }
 
-    // Writes what is whole of the bytes, of which there are some: one that begins a control character is kept.
+    // Writes what is whole of the bytes, which aren't none: one that begins a control character is kept.
     fn write_shown(&mut self, bytes: &[u8], first: u8) -> io::Result<usize>
         requires { 1 ≤ length bytes.now }
         ensures { WritesAtMost result bytes.now }

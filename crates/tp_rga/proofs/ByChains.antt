@@ -21,7 +21,7 @@ use Rattle.tp_rga.proofs.Trees.{Before-chains, Before-trans, Before-cases}
 use Rattle.tp_rga.proofs.Orderings.{IsSortedIn-prefix, IsSortedIn-back, IsSortedIn-across, IsSortedIn-join}
 use Rattle.tp_rga.proofs.Lookups.{IsFirst}
 
--- ---- how many elements stand below a place
+-- ---- how many elements are below a place
 
 -- the test of the order of identifiers
 is_less : OpId → OpId → Bool
@@ -46,7 +46,7 @@ is_less-below a b =
       | inr k ↦ λ e. cc
     ]
 
--- how many elements stand below an identifier
+-- how many elements are below an identifier
 below_count : List Insert → OpId → ℕ
 below_count S x = length (filter (λ (e : Insert). is_less e.id x) S)
 
@@ -99,7 +99,7 @@ reference_there S tree x (After r) i = (tree.placed _ i.1).0
 
 -- ---- comparing chains
 
--- where two chains agree at a place, the comparison goes on behind it
+-- where two chains agree at a place, the comparison goes on after it
 pub Precedes-step : (c d : List OpId) (i : ℕ) (z : OpId) → i < length c → i < length d → id_eq (get_or c i z) (get_or d i z) ≡ true → (Precedes (drop i c) (drop i d) → Precedes (drop (i + 1) c) (drop (i + 1) d)) × (Precedes (drop (i + 1) c) (drop (i + 1) d) → Precedes (drop i c) (drop i d))
 Precedes-step c d i z in_c in_d same =
     let e = drop_more c i z in_c in
@@ -160,7 +160,7 @@ Inserts-found S x i e h at =
 
 -- ---- what chains say of two elements
 
--- the comparison of their chains decides which of two elements stands first
+-- the comparison of their chains decides which of two elements is first
 pub Before-test : (S : List Insert) → IsTree S → (x y : OpId) (c d : List OpId) (b : Bool) → IsChain S x c → IsChain S y d → (b ≡ true → Precedes c d) × (Precedes c d → b ≡ true) → (b ≡ true → Before S x y) × (Before S x y → b ≡ true)
 Before-test S tree x y c d b l k h =
     (λ e. (c, d, l, k, h.0 e), λ before. h.1 (Before-chains S tree x y before c d l k))
@@ -192,23 +192,23 @@ past_members P L i all x j =
     let short : r.0 < i = omega (arith, r.1, length-take i L) in
     subst P (sym (get_or-take i L r.0 x short) ∙ r.2 x) (all r.0 x (omega arith) short)
 
--- what holds at an index holds of the first element behind
+-- what holds at an index holds of the first element after it
 not_before_first : (P : Insert → Type 0) (L : List Insert) (i : ℕ) → (i < length L → HoldsAt P L i) → (h : Insert) (B : List Insert) → drop i L ≡ h ∷ B → P h
 not_before_first P [] zero stops h B e = cc
 not_before_first P [] (suc i) stops h B e = cc
 not_before_first P (a ∷ L) zero stops h B e = let same : a ≡ h = cc in subst P same (stops (omega arith) a)
 not_before_first P (a ∷ L) (suc i) stops h B e = not_before_first P L i (λ lt d. stops (omega arith) d) h B e
 
--- a sorted list with one more element, behind all that are before it
+-- a sorted list with one more element, after all that are before it
 pub put_sorted : (S : List Insert) → IsTree S → (L : List Insert) → AllIn L S → IsSortedIn S L → (x : Insert) → In x S → IsNew L x.id → (i : ℕ) → AllWithin (λ (e : Insert). Before S e.id x.id) L 0 i → (i < length L → HoldsAt (λ (e : Insert). Before S e.id x.id → ⊥) L i) → IsSortedIn S (insert L i x)
 put_sorted S tree L part sorted x x_in new i passed stops =
     let F = take i L in
     let B = drop i L in
     let parts : IsSortedIn S (F ++ B) = subst (IsSortedIn S) (sym (take-append-drop i L)) sorted in
-    let behind : (e : Insert) → In e B → In e L = (λ e j. subst (In e) (take-append-drop i L) (In-right e F B j)) in
+    let beyond : (e : Insert) → In e B → In e L = (λ e j. subst (In e) (take-append-drop i L) (In-right e F B j)) in
     let prefix : (e : Insert) → In e F → Before S e.id x.id = past_members (λ (e : Insert). Before S e.id x.id) L i passed in
     IsSortedIn-join S F (x ∷ B) (IsSortedIn-prefix S F B parts)
-    (before_rest S tree x x_in B (IsSortedIn-back S F B parts) (λ e j. part e (behind e j)) (λ e j. new e (behind e j)) (not_before_first (λ (e : Insert). Before S e.id x.id → ⊥) L i stops), IsSortedIn-back S F B parts)
+    (before_rest S tree x x_in B (IsSortedIn-back S F B parts) (λ e j. part e (beyond e j)) (λ e j. new e (beyond e j)) (not_before_first (λ (e : Insert). Before S e.id x.id → ⊥) L i stops), IsSortedIn-back S F B parts)
     (λ a b j k. elim k as (λ _. Before S a.id b.id) [
       | inl m ↦ subst (λ (w : Insert). Before S a.id w.id) (sym m) (prefix a j)
       | inr m ↦ IsSortedIn-across S F B parts a b j m

@@ -1,4 +1,4 @@
--- The order of chains: total, transitive, and where a chain with one more identifier at its end stands in it.
+-- The order of chains: total, transitive, and where a chain with one more identifier at its end is in it.
 use Rattle.std.proofs.Common.{◌≡◌, ◌⊎◌, inl, inr, List, [], ◌∷◌, ◌++◌, refl, sym, ap, ◌∙◌, subst}
 use Rattle.tp_opid.specs.declared.op_id.OpId.{OpId}
 use Rattle.tp_opid.specs.Order.{Below}

@@ -39,7 +39,7 @@ length-left f (x ∷ L) =
       | false ↦ length-left f L
     ]
 
--- the element whose flag is down, behind as many that are left, has that place among what is left
+-- the element whose flag is down, after as many that are left, has that place among what is left
 pub slice_get-left : {X : Type 0} (f : X → Bool) (L : List X) (k : ℕ) (x : X) → slice_get (map f L) k ≡ Some false → x ≡ get_or L k x → slice_get (filter (λ y. not (f y)) L) (length (filter not (take k (map f L)))) ≡ Some x
 slice_get-left f [] k x down here = let e : None ≡ Some false = down in cc
 slice_get-left f (y ∷ L) zero x down here =
@@ -52,7 +52,7 @@ slice_get-left f (y ∷ L) (suc k) x down here =
       | false ↦ rest
     ]
 
--- nothing stands past the end
+-- nothing is past the end
 pub slice_get-past : {X : Type 0} (L : List X) (i : ℕ) → length L ≤ i → slice_get L i ≡ None
 slice_get-past [] i h = refl
 slice_get-past (x ∷ L) zero h = absurd (omega arith)

@@ -11,7 +11,7 @@ use Rattle.tp_rga.specs.Shown.{seen_of, index_in}
 use Rattle.tp_rga.proofs.Lookups.{position-cons}
 use Rattle.tp_rga.proofs.Walking.{seen_at, seen_end}
 
--- an element, and those that are left behind it
+-- an element, and those that are left after it
 pub left_from : (L : List Insert) (k : ℕ) (e : Insert) → k < length L → get_or L k e ≡ e → drop k L ≡ e ∷ drop (k + 1) L
 left_from L k e lt is =
     let next : suc k ≡ k + 1 = omega arith in

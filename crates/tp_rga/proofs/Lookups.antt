@@ -41,7 +41,7 @@ abbrev pub IsFirst : {X : Type 0} → (X → Bool) → List X → Option ℕ →
 IsFirst {X} p xs None = (e : X) → In e xs → p e ≡ false
 IsFirst {X} p xs (Some i) = (A : List X) × (e : X) × (B : List X) × (xs ≡ A ++ e ∷ B) × (length A ≡ i) × (p e ≡ true) × ((d : X) → In d A → p d ≡ false)
 
--- where the first that passes stands, of a list with one more before it
+-- where the first that passes is, of a list with one more before it
 IsFirst-cons : {X : Type 0} (p : X → Bool) (x : X) (xs : List X) (b : Bool) → p x ≡ b → (r : Option ℕ) → IsFirst p xs r → IsFirst p (x ∷ xs) (cond b (Some 0) (option_map (λ i. suc i) r))
 IsFirst-cons p x xs true e r h = ([], x, xs, refl, refl, e, λ d i. absurd i)
 IsFirst-cons p x xs false e None h = λ y i. elim i as (λ _. p y ≡ false) [ inl k ↦ ap p k ∙ e | inr k ↦ h y k ]
@@ -93,7 +93,7 @@ AllWithin-member P xs low high le all x i =
     let here : get_or xs (low + r.0) x ≡ x = sym (get_or-drop low xs r.0 x) ∙ sym (get_or-take (high - low) (drop low xs) r.0 x short) ∙ r.2 x in
     subst P here (all (low + r.0) x (omega arith) (omega arith))
 
--- what holds at an index holds of what stands behind
+-- what holds at an index holds of what is after it
 StopsAt-found : (L : List Insert) (x : OpId) (to : ℕ) → (to < length L → HoldsAt (λ (e : Insert). Below x e.id → ⊥) L to) → StopsAt x (drop to L)
 StopsAt-found [] x zero h = tt
 StopsAt-found [] x (suc to) h = tt
@@ -114,15 +114,15 @@ take_parts (y ∷ xs) (suc low) zero h = absurd (omega arith)
 take_parts (y ∷ xs) (suc low) (suc high) h =
     ap (λ z. y ∷ z) (take_parts xs low high (omega arith) ∙ ap (λ n. take low xs ++ take n (drop low xs)) (omega arith))
 
--- an insert at the place that the code finds stands in order
+-- an insert at the place that the code finds is in order
 pub place_found : (L : List Insert) (x : Insert) (from to : ℕ) → CanInsert L x.id x.after → from ≤ to → to ≤ length L → EndsAt (take from L) x.after → AllWithin (λ (e : Insert). Below x.id e.id) L from to → (to < length L → HoldsAt (λ (e : Insert). Below x.id e.id → ⊥) L to) → IsInserted L (insert L to x) x
 place_found L x from to can le within ends passed stops =
     let F = take from L in
     let G = take (to - from) (drop from L) in
     let B = drop to L in
     let rest : drop (to - from) (drop from L) ≡ B = drop-drop (to - from) from L ∙ ap (λ n. drop n L) (omega arith) in
-    let behind : drop from L ≡ G ++ B = sym (take-append-drop (to - from) (drop from L)) ∙ ap (λ z. G ++ z) rest in
-    let whole : L ≡ F ++ (G ++ B) = sym (take-append-drop from L) ∙ ap (λ z. F ++ z) behind in
+    let beyond : drop from L ≡ G ++ B = sym (take-append-drop (to - from) (drop from L)) ∙ ap (λ z. G ++ z) rest in
+    let whole : L ≡ F ++ (G ++ B) = sym (take-append-drop from L) ∙ ap (λ z. F ++ z) beyond in
     let prefix : take to L ≡ F ++ G = take_parts L from to le in
     record {
       put = (to, within, refl);
@@ -152,7 +152,7 @@ IsThere-test L x false h = (λ e. cc, λ there. absurd (IsThere-not_new L x ther
 pub IsFirst-position : (L : List Insert) (x : OpId) (r : Option ℕ) → position (λ (e : Insert). id_eq e.id x) L ≡ r → IsFirst (λ (e : Insert). id_eq e.id x) L r
 IsFirst-position L x r e = subst (IsFirst (λ (w : Insert). id_eq w.id x) L) e (position-first (λ (w : Insert). id_eq w.id x) L)
 
--- what stands at a place and has the identifier
+-- what is at a place and has the identifier
 pub IsThere-held : (L : List Insert) (x : OpId) (i : ℕ) → i < length L → HoldsAt (λ (e : Insert). id_eq e.id x ≡ true) L i → IsThere L x
 IsThere-held [] x i lt held = absurd (omega arith)
 IsThere-held (d ∷ L) x i lt held = IsThere-found (d ∷ L) x (get_or (d ∷ L) i d) (In-get_or (d ∷ L) i d lt) (held d)

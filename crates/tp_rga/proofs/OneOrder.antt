@@ -1,4 +1,4 @@
--- A tree has one list in order; it depends on the set alone, and its parts stand in order for parts of the tree.
+-- A tree has one list in order; it depends on the set alone, and its parts are in order for parts of the tree.
 use Rattle.std.proofs.Common.{◌≡◌, inl, inr, Bool, true, false, not, cond, ◌||◌, List, [], ◌∷◌, ◌++◌, filter, take, drop, insert, refl, sym, ap, ◌∙◌, subst}
 use Rattle.std.proofs.lemmas.List.Elements.{filter_agree}
 use Rattle.std.proofs.lemmas.List.{take-append-drop}
@@ -9,11 +9,11 @@ use Rattle.tp_opid.specs.declared.op_id.Place.{Place}
 use Rattle.tp_opid.specs.declared.op_id.Place.TheVariants.{Start, After}
 use Rattle.tp_opid.specs.Insert.{Insert}
 use Rattle.tp_opid.specs.Same.{id_eq}
-use Rattle.tp_opid.specs.Tree.{IsThere, AreApart, IsAboveAll, HasReference, IsReferenceBelow, IsTree, CanInsert}
+use Rattle.tp_opid.specs.Tree.{IsThere, IdsApart, IsAboveAll, HasReference, IsReferenceBelow, IsTree, CanInsert}
 use Rattle.tp_opid.proofs.Orders.{Below-asym, id_eq-same, id_eq-apart}
 use Rattle.tp_opid.proofs.Trees.{IsThere-member, CanInsert-same, IsTree-push}
 use Rattle.tp_rga.specs.Order.{Before, IsSortedIn, IsInOrder, EndsAt, insert_after, IsInserted}
-use Rattle.tp_rga.specs.Shown.{is_removed, shown}
+use Rattle.tp_rga.specs.Shown.{is_removed, visible_of}
 use Rattle.tp_rga.proofs.Trees.{Descends-grow, Before-irreflexive, Before-trans, Before-cases, Before-chains, chain_exists}
 use Rattle.tp_rga.proofs.Orderings.{IsSortedIn-grow, sorted_once}
 use Rattle.tp_rga.proofs.Places.{StopsAt, put_in_order}
@@ -108,7 +108,7 @@ order_exists S tree =
 -- ---- what the order says of single elements
 
 -- no two elements of a list in order have one identifier
-sorted_apart : (S L : List Insert) → IsTree S → IsSortedIn S L → AreApart L
+sorted_apart : (S L : List Insert) → IsTree S → IsSortedIn S L → IdsApart L
 sorted_apart S [] tree h = tt
 sorted_apart S (a ∷ L) tree h = (
   λ e i. elim (id_eq e.id a.id) as (λ b. id_eq e.id a.id ≡ b → b ≡ false) [
@@ -118,13 +118,13 @@ sorted_apart S (a ∷ L) tree h = (
   sorted_apart S L tree h.1,
 )
 
--- in a list in order each element stands once
-pub stands_once : (S L : List Insert) → IsTree S → IsInOrder S L → AreApart L
-stands_once S L tree order = sorted_apart S L tree order.sorted
+-- in a list in order each element is there once
+pub present_once : (S L : List Insert) → IsTree S → IsInOrder S L → IdsApart L
+present_once S L tree order = sorted_apart S L tree order.sorted
 
 -- ---- parts of a tree
 
--- two elements stand in a part that is a tree as they do in the whole
+-- two elements are ordered in a part that is a tree as they are in the whole
 pub Before-part : (S T : List Insert) → IsTree S → IsTree T → AllIn T S → (x y : OpId) → IsThere T x → IsThere T y → Before S x y → Before T x y
 Before-part S T tree part of x y i j h =
     let c = chain_exists T part x i in
@@ -146,7 +146,7 @@ sorted_part S T keep tree part of (a ∷ L) kept h =
       | false ↦ λ k. rest
     ] refl
 
--- a part of a tree by a test, itself a tree, stands in order in that part of the list
+-- a part of a tree by a test, itself a tree, is in order in that part of the list
 pub order_of_part : (S L : List Insert) (keep : Insert → Bool) → IsTree S → IsTree (filter keep S) → IsInOrder S L → IsInOrder (filter keep S) (filter keep L)
 order_of_part S L keep tree part order = record {
   same = record {
@@ -166,7 +166,7 @@ insert_after-parts (After r) x (e ∷ L) h =
     elim (id_eq e.id r) as (λ b. id_eq e.id r ≡ b → (F : List Insert) × (B : List Insert) × (e ∷ L ≡ F ++ B) × EndsAt F (After r) × (cond b (e ∷ x ∷ L) (e ∷ insert_after (After r) x L) ≡ F ++ x ∷ B)) [
       | true ↦ λ k. (e ∷ [], L, refl, ([], e, refl, id_eq-same e.id r k), refl)
       | false ↦ λ k.
-          let behind : HasReference L (After r) = (
+          let beyond : HasReference L (After r) = (
             h.0,
             (
               h.1.0,
@@ -176,7 +176,7 @@ insert_after-parts (After r) x (e ∷ L) h =
               ],
             ),
           ) in
-          let rest = insert_after-parts (After r) x L behind in
+          let rest = insert_after-parts (After r) x L beyond in
           (e ∷ rest.0, rest.1, ap (λ z. e ∷ z) rest.2, (e ∷ rest.3.0, rest.3.1, ap (λ z. e ∷ z) rest.3.2, rest.3.3), ap (λ z. e ∷ z) rest.4)
     ] refl
 
@@ -185,7 +185,7 @@ has_place : (S : List Insert) (x : OpId) (p : Place) → IsReferenceBelow S x p 
 has_place S x Start h = tt
 has_place S x (After r) h = h.0
 
--- an identifier above all others stands directly after its reference
+-- an identifier above all others is directly after its reference
 pub greatest_next : (S L : List Insert) (x : Insert) → IsTree S → IsInOrder S L → CanInsert S x.id x.after → IsAboveAll S x.id → IsInOrder (S ++ x ∷ []) (insert_after x.after x L)
 greatest_next S L x tree order can above =
     let parts = insert_after-parts x.after x L (has_place L x.id x.after (CanInsert-same S L order.same x.id x.after can).place) in
@@ -262,11 +262,11 @@ is_removed-same R Q same x =
     ] refl
 
 -- what is shown depends on the deletes as a set
-pub shown_of_set : (R Q : List (OpId × OpId)) (L : List Insert) → SameMembers R Q → shown R L ≡ shown Q L
+pub shown_of_set : (R Q : List (OpId × OpId)) (L : List Insert) → SameMembers R Q → visible_of R L ≡ visible_of Q L
 shown_of_set R Q L same =
     filter_agree (λ (e : Insert). not (is_removed R e.id)) (λ (e : Insert). not (is_removed Q e.id)) (λ e. ap not (is_removed-same R Q same e.id)) L
 
 -- two lists in order for one set, under one set of deletes, show one text
-pub same_text : (S T L M : List Insert) (R Q : List (OpId × OpId)) → IsTree S → SameMembers S T → SameMembers R Q → IsInOrder S L → IsInOrder T M → shown R L ≡ shown Q M
+pub same_text : (S T L M : List Insert) (R Q : List (OpId × OpId)) → IsTree S → SameMembers S T → SameMembers R Q → IsInOrder S L → IsInOrder T M → visible_of R L ≡ visible_of Q M
 same_text S T L M R Q tree same deletes l m =
-    shown_of_set R Q L deletes ∙ ap (shown Q) (one_order S L M tree l (order_of_set T S M (SameMembers-sym S T same) m))
+    shown_of_set R Q L deletes ∙ ap (visible_of Q) (one_order S L M tree l (order_of_set T S M (SameMembers-sym S T same) m))

@@ -24,7 +24,7 @@ pub IsSortedIn-back : (S F B : List Insert) → IsSortedIn S (F ++ B) → IsSort
 IsSortedIn-back S [] B h = h
 IsSortedIn-back S (a ∷ F) B h = IsSortedIn-back S F B h.1
 
--- what stands in the prefix is before what stands behind it
+-- what is in the prefix is before what is after it
 pub IsSortedIn-across : (S F B : List Insert) → IsSortedIn S (F ++ B) → (a b : Insert) → In a F → In b B → Before S a.id b.id
 IsSortedIn-across S [] B h a b i j = absurd i
 IsSortedIn-across S (c ∷ F) B h a b (inl i) j = subst (λ (w : Insert). Before S w.id b.id) (sym i) (h.0 b (In-right b F B j))

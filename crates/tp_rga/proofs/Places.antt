@@ -1,4 +1,4 @@
--- Where an insert goes: right after its reference, past each element with a greater identifier. There it stands in
+-- Where an insert goes: right after its reference, past each element with a greater identifier. There it is in
 -- order.
 use Rattle.std.proofs.Common.{◌≡◌, ◌⊎◌, inl, inr, List, [], ◌∷◌, ◌++◌, refl, sym, ◌∙◌, subst, append_assoc}
 use Rattle.tp_list.specs.Members.{In, AllIn, SameMembers}
@@ -58,7 +58,7 @@ back_chains S F B tree sorted (After r) (A, f, is, names) c l e i d k =
     let f_in : In f F = subst (λ w. In f w) (sym is) (In-last f A) in
     Before-chains S tree f.id e.id (IsSortedIn-across S F B sorted f e f_in i) c d at_f k
 
--- what is passed over stands before the new element
+-- what is passed over is before the new element
 passed_before : (S F G B : List Insert) (x : Insert) → IsTree S → IsInOrder S (F ++ (G ++ B)) → EndsAt F x.after → AllAbove x.id G → (c : List OpId) → Trace (Descends S) Start c x.after → AllBelow x.id c → (e : Insert) → In e G → (d : List OpId) → IsChain S e.id d → Precedes d (c ++ x.id ∷ [])
 passed_before S F G B x tree order ends above c l small e i d k =
     let after_reference : Precedes c d = back_chains S F (G ++ B) tree order.sorted x.after ends c l e (In-left e G B i) d k in
@@ -80,7 +80,7 @@ passed_before S F G B x tree order ends above c l small e i d k =
       ]
     ])
 
--- the new element stands before the one at which the search stopped
+-- the new element is before the one at which the search stopped
 stopped_before : (S F G : List Insert) (h : Insert) (B : List Insert) (x : Insert) → IsTree S → IsInOrder S (F ++ (G ++ h ∷ B)) → IsNew S x.id → EndsAt F x.after → StopsAt x.id (h ∷ B) → (c : List OpId) → Trace (Descends S) Start c x.after → (d : List OpId) → IsChain S h.id d → Precedes (c ++ x.id ∷ []) d
 stopped_before S F G h B x tree order new ends stops c l d k =
     let h_in : In h (G ++ h ∷ B) = In-right h G (h ∷ B) (inl refl) in
@@ -132,7 +132,7 @@ put_members S F G B x same = record {
 
 -- ---- the theorem
 
--- the new element stands before all that is behind it
+-- the new element is before all that is after it
 new_before : (S F G B : List Insert) (x : Insert) → IsTree S → IsInOrder S (F ++ (G ++ B)) → IsNew S x.id → EndsAt F x.after → StopsAt x.id B → (c : List OpId) → Trace (Descends S) Start c x.after → IsTree (S ++ x ∷ []) → (b : Insert) → In b B → Before (S ++ x ∷ []) x.id b.id
 new_before S F G [] x tree order new ends stops c l tree' b i = absurd i
 new_before S F G (h ∷ B) x tree order new ends stops c l tree' b i =
@@ -148,7 +148,7 @@ new_before S F G (h ∷ B) x tree order new ends stops c l tree' b i =
     ]
 
 -- Right after its reference (the end of F), past elements with greater identifiers (G), before one with no greater
--- identifier (the first of B) or at the end, the new element stands in order.
+-- identifier (the first of B) or at the end, the new element is in order.
 pub put_in_order : (S F G B : List Insert) (x : Insert) → IsTree S → IsInOrder S (F ++ (G ++ B)) → CanInsert S x.id x.after → EndsAt F x.after → AllAbove x.id G → StopsAt x.id B → IsInOrder (S ++ x ∷ []) (F ++ (G ++ x ∷ B))
 put_in_order S F G B x tree order can ends above stops =
     let T = S ++ x ∷ [] in

@@ -8,10 +8,10 @@ use Rattle.tp_list.proofs.Members.{In-left, In-right, In-append, In-middle}
 use Rattle.tp_opid.specs.declared.op_id.OpId.{OpId}
 use Rattle.tp_opid.specs.Insert.{Insert}
 use Rattle.tp_opid.specs.Same.{id_eq}
-use Rattle.tp_opid.specs.Tree.{IsThere, IsNew, AreApart}
+use Rattle.tp_opid.specs.Tree.{IsThere, IsNew, IdsApart}
 use Rattle.tp_opid.proofs.Orders.{id_eq-same, id_eq-itself, id_eq-flip}
 use Rattle.tp_opid.proofs.Trees.{IsThere-grow}
-use Rattle.tp_rga.specs.Shown.{is_removed, shown, shown_before}
+use Rattle.tp_rga.specs.Shown.{is_removed, visible_of, visible_before}
 use Rattle.tp_rga.specs.PlainState.{IsPlainState}
 use Rattle.tp_rga.proofs.Lookups.{IsFirst}
 use Rattle.tp_rga.proofs.Flagging.{map-insert, length-filter-insert, map_agree, filter_agree_in, length-left, slice_get-left, slice_get-past, take-map_lem}
@@ -19,15 +19,15 @@ use Rattle.tp_rga.proofs.Flagging.{map-insert, length-filter-insert, map_agree, 
 -- ---- an insert
 
 -- a list without two of one identifier, with a new one put in
-AreApart-put : (A B : List Insert) (x : Insert) → AreApart (A ++ B) → IsNew (A ++ B) x.id → AreApart (A ++ x ∷ B)
-AreApart-put [] B x apart new = (λ e i. id_eq-flip x.id e.id (id_eq-flip e.id x.id (new e i)), apart)
-AreApart-put (a ∷ A) B x apart new = (
+IdsApart-put : (A B : List Insert) (x : Insert) → IdsApart (A ++ B) → IsNew (A ++ B) x.id → IdsApart (A ++ x ∷ B)
+IdsApart-put [] B x apart new = (λ e i. id_eq-flip x.id e.id (id_eq-flip e.id x.id (new e i)), apart)
+IdsApart-put (a ∷ A) B x apart new = (
   λ e i. elim (In-append e A (x ∷ B) i) as (λ _. id_eq e.id a.id ≡ false) [
     | inl j ↦ apart.0 e (In-left e A B j)
     | inr (inl j) ↦ subst (λ (w : Insert). id_eq w.id a.id ≡ false) (sym j) (id_eq-flip a.id x.id (new a (inl refl)))
     | inr (inr j) ↦ apart.0 e (In-right e A B j)
   ],
-  AreApart-put A B x apart.1 (λ e i. new e (inr i)),
+  IdsApart-put A B x apart.1 (λ e i. new e (inr i)),
 )
 
 -- deletes of elements that are there name no new one
@@ -43,7 +43,7 @@ IsPlainState-insert L flags R n i x kept new =
     let whole : take i L ++ drop i L ≡ L = take-append-drop i L in
     let down : is_removed R x.id ≡ false = is_removed-new L R x.id kept.targets new in
     record {
-      apart = AreApart-put (take i L) (drop i L) x (subst AreApart (sym whole) kept.apart) (subst (λ w. IsNew w x.id) (sym whole) new);
+      apart = IdsApart-put (take i L) (drop i L) x (subst IdsApart (sym whole) kept.apart) (subst (λ w. IsNew w x.id) (sym whole) new);
       targets = λ r j. IsThere-grow L (insert L i x) (λ e m. put_keeps (take i L) (drop i L) x e (subst (In e) (sym whole) m)) r.0 (kept.targets r j);
       flagged = ap (λ z. insert z i false) kept.flagged ∙ ap (λ b. insert (map (λ (e : Insert). is_removed R e.id) L) i b) (sym down) ∙ sym (map-insert (λ (e : Insert). is_removed R e.id) L i x);
       counted = (let more = length-filter-insert (λ (e : Insert). not (is_removed R e.id)) L i x (ap not down) in omega (arith, kept.counted));
@@ -65,16 +65,16 @@ removed-itself [] t b x e = ap (λ v. v || false) e
 removed-itself (r ∷ R) t b x e =
     elim (id_eq r.0 x) as (λ v. (v || is_removed (R ++ (t, b) ∷ []) x) ≡ true) [ true ↦ refl | false ↦ removed-itself R t b x e ]
 
--- in a list without two of one identifier, what stands before and behind an element has another
-AreApart-prefix : (A : List Insert) (e : Insert) (B : List Insert) → AreApart (A ++ e ∷ B) → (d : Insert) → In d A → id_eq e.id d.id ≡ false
-AreApart-prefix [] e B apart d i = absurd i
-AreApart-prefix (a ∷ A) e B apart d (inl i) = subst (λ (w : Insert). id_eq e.id w.id ≡ false) (sym i) (apart.0 e (In-middle A e B))
-AreApart-prefix (a ∷ A) e B apart d (inr i) = AreApart-prefix A e B apart.1 d i
+-- in a list without two of one identifier, what is before and after an element has another
+IdsApart-prefix : (A : List Insert) (e : Insert) (B : List Insert) → IdsApart (A ++ e ∷ B) → (d : Insert) → In d A → id_eq e.id d.id ≡ false
+IdsApart-prefix [] e B apart d i = absurd i
+IdsApart-prefix (a ∷ A) e B apart d (inl i) = subst (λ (w : Insert). id_eq e.id w.id ≡ false) (sym i) (apart.0 e (In-middle A e B))
+IdsApart-prefix (a ∷ A) e B apart d (inr i) = IdsApart-prefix A e B apart.1 d i
 
--- and likewise what stands behind it
-AreApart-back : (A : List Insert) (e : Insert) (B : List Insert) → AreApart (A ++ e ∷ B) → (d : Insert) → In d B → id_eq e.id d.id ≡ false
-AreApart-back [] e B apart d i = id_eq-flip d.id e.id (apart.0 d i)
-AreApart-back (a ∷ A) e B apart d i = AreApart-back A e B apart.1 d i
+-- and likewise what is after it
+IdsApart-back : (A : List Insert) (e : Insert) (B : List Insert) → IdsApart (A ++ e ∷ B) → (d : Insert) → In d B → id_eq e.id d.id ≡ false
+IdsApart-back [] e B apart d i = id_eq-flip d.id e.id (apart.0 d i)
+IdsApart-back (a ∷ A) e B apart d i = IdsApart-back A e B apart.1 d i
 
 -- the targets with one more
 targets-push : (L : List Insert) (R : List (OpId × OpId)) (t b : OpId) → ((r : OpId × OpId) → In r R → IsThere L r.0) → IsThere L t → (r : OpId × OpId) → In r (R ++ (t, b) ∷ []) → IsThere L r.0
@@ -86,14 +86,14 @@ targets-push L R t b targets there r i =
     ]
 
 -- a delete of an element that is deleted already changes no flag
-kept_again : (R : List (OpId × OpId)) (t b : OpId) (A : List Insert) (e : Insert) (B : List Insert) → AreApart (A ++ e ∷ B) → e.id ≡ t → is_removed R t ≡ true → (d : Insert) → In d (A ++ e ∷ B) → is_removed R d.id ≡ is_removed (R ++ (t, b) ∷ []) d.id
+kept_again : (R : List (OpId × OpId)) (t b : OpId) (A : List Insert) (e : Insert) (B : List Insert) → IdsApart (A ++ e ∷ B) → e.id ≡ t → is_removed R t ≡ true → (d : Insert) → In d (A ++ e ∷ B) → is_removed R d.id ≡ is_removed (R ++ (t, b) ∷ []) d.id
 kept_again R t b A e B apart names removed d i =
     let other : (x : OpId) → id_eq e.id x ≡ false → is_removed R x ≡ is_removed (R ++ (t, b) ∷ []) x =
     (λ x h. sym (removed-other R t b x (subst (λ w. id_eq w x ≡ false) names h))) in
     elim (In-append d A (e ∷ B) i) as (λ _. is_removed R d.id ≡ is_removed (R ++ (t, b) ∷ []) d.id) [
-      | inl j ↦ other d.id (AreApart-prefix A e B apart d j)
+      | inl j ↦ other d.id (IdsApart-prefix A e B apart d j)
       | inr (inl j) ↦ subst (λ w. is_removed R w ≡ is_removed (R ++ (t, b) ∷ []) w) (sym (ap (λ (w : Insert). w.id) j ∙ names)) (removed ∙ sym (removed-itself R t b t (id_eq-itself t)))
-      | inr (inr j) ↦ other d.id (AreApart-back A e B apart d j)
+      | inr (inr j) ↦ other d.id (IdsApart-back A e B apart d j)
     ]
 
 -- the flag of the element that a look-up found
@@ -115,7 +115,7 @@ pub IsPlainState-delete_again : (L : List Insert) (flags : List Bool) (R : List 
 IsPlainState-delete_again L flags R n t b i kept h read is up there =
     let removed : is_removed R t ≡ true = flag_of_found L R t i h read (subst (λ z. read ≡ get_or z i read) kept.flagged is) ∙ up in
     let same : (d : Insert) → In d L → is_removed R d.id ≡ is_removed (R ++ (t, b) ∷ []) d.id =
-    (λ d j. kept_again R t b h.0 h.1 h.2 (subst AreApart h.3 kept.apart) (id_eq-same h.1.id t h.5) removed d (subst (In d) h.3 j)) in
+    (λ d j. kept_again R t b h.0 h.1 h.2 (subst IdsApart h.3 kept.apart) (id_eq-same h.1.id t h.5) removed d (subst (In d) h.3 j)) in
     record {
       apart = kept.apart;
       targets = targets-push L R t b kept.targets there;
@@ -130,11 +130,11 @@ IsPlainState-delete L flags R n t b i kept h read is down there =
     let f : Insert → Bool = λ (e : Insert). is_removed R e.id in
     let g : Insert → Bool = λ (e : Insert). is_removed S e.id in
     let names : h.1.id ≡ t = id_eq-same h.1.id t h.5 in
-    let apart = subst AreApart h.3 kept.apart in
+    let apart = subst IdsApart h.3 kept.apart in
     let was : f h.1 ≡ false = ap (is_removed R) names ∙ flag_of_found L R t i h read (subst (λ z. read ≡ get_or z i read) kept.flagged is) ∙ down in
     let now : g h.1 ≡ true = ap (is_removed S) names ∙ removed-itself R t b t (id_eq-itself t) in
-    let prefix : (d : Insert) → In d h.0 → f d ≡ g d = (λ d j. sym (removed-other R t b d.id (subst (λ w. id_eq w d.id ≡ false) names (AreApart-prefix h.0 h.1 h.2 apart d j)))) in
-    let back : (d : Insert) → In d h.2 → f d ≡ g d = (λ d j. sym (removed-other R t b d.id (subst (λ w. id_eq w d.id ≡ false) names (AreApart-back h.0 h.1 h.2 apart d j)))) in
+    let prefix : (d : Insert) → In d h.0 → f d ≡ g d = (λ d j. sym (removed-other R t b d.id (subst (λ w. id_eq w d.id ≡ false) names (IdsApart-prefix h.0 h.1 h.2 apart d j)))) in
+    let back : (d : Insert) → In d h.2 → f d ≡ g d = (λ d j. sym (removed-other R t b d.id (subst (λ w. id_eq w d.id ≡ false) names (IdsApart-back h.0 h.1 h.2 apart d j)))) in
     let old_flags : flags ≡ map f h.0 ++ f h.1 ∷ map f h.2 = kept.flagged ∙ ap (map f) h.3 ∙ map-append f h.0 (h.1 ∷ h.2) in
     let new_flags : map g L ≡ map g h.0 ++ g h.1 ∷ map g h.2 = ap (map g) h.3 ∙ map-append g h.0 (h.1 ∷ h.2) in
     let written : set flags i true ≡ map f h.0 ++ true ∷ map f h.2 = ap (λ z. set z i true) old_flags ∙ set_at (map f h.0) (f h.1) (map f h.2) true i (length-map h.0 f ∙ h.4) in
@@ -142,9 +142,9 @@ IsPlainState-delete L flags R n t b i kept h read is down there =
     (let e0 = map_agree f g h.0 prefix in let e2 = map_agree f g h.2 back in cc) in
     let p : Insert → Bool = λ (e : Insert). not (f e) in
     let q : Insert → Bool = λ (e : Insert). not (g e) in
-    let old_left : length (shown R L) ≡ length (filter p h.0) + suc (length (filter p h.2)) =
+    let old_left : length (visible_of R L) ≡ length (filter p h.0) + suc (length (filter p h.2)) =
     ap (λ z. length (filter p z)) h.3 ∙ left_with p h.0 h.1 h.2 (ap not was) in
-    let new_left : length (shown S L) ≡ length (filter q h.0) + length (filter q h.2) =
+    let new_left : length (visible_of S L) ≡ length (filter q h.0) + length (filter q h.2) =
     ap (λ z. length (filter q z)) h.3 ∙ left_without q h.0 h.1 h.2 (ap not now) in
     let e0 : filter p h.0 ≡ filter q h.0 = filter_agree_in p q h.0 (λ d j. ap not (prefix d j)) in
     let e2 : filter p h.2 ≡ filter q h.2 = filter_agree_in p q h.2 (λ d j. ap not (back d j)) in
@@ -174,27 +174,27 @@ IsPlainState-delete L flags R n t b i kept h read is down there =
 -- ---- reads
 
 -- the element found by the flags has that place in the text
-pub shown-found : (L : List Insert) (flags : List Bool) (R : List (OpId × OpId)) (n k i : ℕ) (x : Insert) → IsPlainState L flags R n → slice_get flags k ≡ Some false → length (filter not (take k flags)) ≡ i → x ≡ get_or L k x → slice_get (shown R L) i ≡ Some x
-shown-found L flags R n k i x kept down before here =
+pub visible_of-found : (L : List Insert) (flags : List Bool) (R : List (OpId × OpId)) (n k i : ℕ) (x : Insert) → IsPlainState L flags R n → slice_get flags k ≡ Some false → length (filter not (take k flags)) ≡ i → x ≡ get_or L k x → slice_get (visible_of R L) i ≡ Some x
+visible_of-found L flags R n k i x kept down before here =
     let f : Insert → Bool = λ (e : Insert). is_removed R e.id in
     let count : length (filter not (take k (map f L))) ≡ i = ap (λ z. length (filter not (take k z))) (sym kept.flagged) ∙ before in
-    subst (λ m. slice_get (shown R L) m ≡ Some x) count (slice_get-left f L k x (subst (λ z. slice_get z k ≡ Some false) kept.flagged down) here)
+    subst (λ m. slice_get (visible_of R L) m ≡ Some x) count (slice_get-left f L k x (subst (λ z. slice_get z k ≡ Some false) kept.flagged down) here)
 
 -- past what is shown there is nothing
-pub shown-past : (L : List Insert) (flags : List Bool) (R : List (OpId × OpId)) (n i : ℕ) → IsPlainState L flags R n → length (filter not flags) ≤ i → slice_get (shown R L) i ≡ None
-shown-past L flags R n i kept past =
-    let e : length (filter not flags) ≡ length (shown R L) = ap (λ z. length (filter not z)) kept.flagged ∙ length-left (λ (e : Insert). is_removed R e.id) L in
-    slice_get-past (shown R L) i (omega arith)
+pub visible_of-past : (L : List Insert) (flags : List Bool) (R : List (OpId × OpId)) (n i : ℕ) → IsPlainState L flags R n → length (filter not flags) ≤ i → slice_get (visible_of R L) i ≡ None
+visible_of-past L flags R n i kept past =
+    let e : length (filter not flags) ≡ length (visible_of R L) = ap (λ z. length (filter not z)) kept.flagged ∙ length-left (λ (e : Insert). is_removed R e.id) L in
+    slice_get-past (visible_of R L) i (omega arith)
 
 -- as many flags are down before a place as elements are shown
-pub shown-before : (L : List Insert) (flags : List Bool) (R : List (OpId × OpId)) (n k : ℕ) → IsPlainState L flags R n → length (filter not (take k flags)) ≡ length (shown R (take k L))
-shown-before L flags R n k kept =
+pub visible_of-before : (L : List Insert) (flags : List Bool) (R : List (OpId × OpId)) (n k : ℕ) → IsPlainState L flags R n → length (filter not (take k flags)) ≡ length (visible_of R (take k L))
+visible_of-before L flags R n k kept =
     let f : Insert → Bool = λ (e : Insert). is_removed R e.id in
     ap (λ z. length (filter not (take k z))) kept.flagged ∙ ap (λ z. length (filter not z)) (take-map_lem f k L) ∙ length-left f (take k L)
 
 -- how many are shown before an element that a look-up found
-pub shown_before-found : (R : List (OpId × OpId)) (L : List Insert) (x : OpId) (k : ℕ) → position (λ (e : Insert). id_eq e.id x) L ≡ Some k → shown_before R L x ≡ Some (length (shown R (take k L)))
-shown_before-found R L x k e = ap (option_map (λ i. length (shown R (take i L)))) e
+pub visible_before-found : (R : List (OpId × OpId)) (L : List Insert) (x : OpId) (k : ℕ) → position (λ (e : Insert). id_eq e.id x) L ≡ Some k → visible_before R L x ≡ Some (length (visible_of R (take k L)))
+visible_before-found R L x k e = ap (option_map (λ i. length (visible_of R (take i L)))) e
 
 -- a test keeps no more than there is
 length-filter_le : {X : Type 0} (p : X → Bool) (xs : List X) → length (filter p xs) ≤ length xs

@@ -45,7 +45,7 @@ chain_ends S c x y l k =
 
 -- ---- one chain for one element
 
--- an element of a tree stands after one place
+-- an element of a tree is placed after one place
 pub Inserts-once : (S : List Insert) → IsTree S → (x : OpId) (p q : Place) → Inserts S x p → Inserts S x q → p ≡ q
 Inserts-once S tree x p q h k = ap (λ (e : Insert). e.after) (tree.once _ _ h.1 k.1 refl)
 
@@ -114,7 +114,7 @@ chain_below S tree p (a ∷ d ∷ c) y x l b =
 
 -- ---- the order of the elements of a tree
 
--- no element stands before itself
+-- no element is before itself
 pub Before-irreflexive : (S : List Insert) → IsTree S → (x : OpId) → Before S x x → ⊥
 Before-irreflexive S tree x (c, d, l, k, p) =
     Precedes-irreflexive d (subst (λ w. Precedes w d) (chain_same S tree (After x) c d l k) p)
@@ -124,7 +124,7 @@ pub Before-trans : (S : List Insert) → IsTree S → (x y z : OpId) → Before 
 Before-trans S tree x y z (c, d, l, k, p) (d', e, k', m, q) =
     (c, e, l, m, Precedes-trans c d e p (subst (λ w. Precedes w e) (chain_same S tree (After y) d' d k' k) q))
 
--- of two elements not both stand before the other
+-- of two elements not both are before the other
 pub Before-asym : (S : List Insert) → IsTree S → (x y : OpId) → Before S x y → Before S y x → ⊥
 Before-asym S tree x y h k = Before-irreflexive S tree x (Before-trans S tree x y x h k)
 
@@ -139,7 +139,7 @@ Before-cases S tree x y h k =
       | inr (inr p) ↦ inr (inr (d.0, c.0, d.1, c.1, p))
     ]
 
--- of two elements, the one that stands before has the chain that precedes
+-- of two elements, the one that is before has the chain that precedes
 pub Before-chains : (S : List Insert) → IsTree S → (x y : OpId) → Before S x y → (c d : List OpId) → IsChain S x c → IsChain S y d → Precedes c d
 Before-chains S tree x y (a, b, l, k, p) c d m n =
     subst (λ w. Precedes w d) (chain_same S tree (After x) a c l m) (subst (λ w. Precedes a w) (chain_same S tree (After y) b d k n) p)

@@ -15,7 +15,7 @@ seen_at R L k x h = elim (slice_get_cases L k).1 [
   | inr past ↦ let e : Some x ≡ option_map (seen_of R) None = h ∙ ap (option_map (seen_of R)) past.1 in cc
 ]
 
--- one that is seen stands before the end
+-- one that is seen is before the end
 pub seen_within : (R : List (OpId × OpId)) (L : List Insert) (k : ℕ) (x : Seen) → Some x ≡ option_map (seen_of R) (slice_get L k) → k < length L
 seen_within R L k x h = (seen_at R L k x h).1
 

@@ -1,5 +1,5 @@
 -- The order of the elements of a text, as RGA has it (Roh and others 2011): among the inserts after one element the
--- greater identifier stands nearer to it, with all that hangs on it. It is a total order on the elements of a set,
+-- greater identifier is nearer to it, with all that hangs on it. It is a total order on the elements of a set,
 -- and the same in each larger set, as the strong list specification asks (Attiya and others, PODC 2016).
 use Rattle.std.specs.Prelude.{◌≡◌, ℕ, ◌≤◌, ◌⊎◌, List, [], ◌∷◌, ◌++◌, length, insert, if◌then◌else◌}
 use Rattle.tp_list.specs.Members.{In, SameMembers}
@@ -16,7 +16,7 @@ use Rattle.tp_opid.specs.Tree.{Inserts, IsTree}
 abbrev pub Descends : List Insert → Place → OpId → Place → Type 0
 Descends S p x q = Inserts S x p × (q ≡ After x)
 
--- The identifiers from the one that stands after the start, along references, to x.
+-- The identifiers from the one that is placed after the start, along references, to x.
 abbrev pub IsChain : List Insert → OpId → List OpId → Type 0
 IsChain S x c = Trace (Descends S) Start c (After x)
 
@@ -26,11 +26,11 @@ Precedes c [] = ⊥
 Precedes [] (b ∷ d) = Unit {0}
 Precedes (a ∷ c) (b ∷ d) = Below b a ⊎ ((a ≡ b) × Precedes c d)
 
--- In the text that S inserts, x stands before y: the chain of x precedes that of y.
+-- In the text that S inserts, x is before y: the chain of x precedes that of y.
 abbrev pub Before : List Insert → OpId → OpId → Type 0
 Before S x y = (c : List OpId) × (d : List OpId) × IsChain S x c × IsChain S y d × Precedes c d
 
--- In the text that S inserts, each element of L stands before all that follow it in L.
+-- In the text that S inserts, each element of L is before all that follow it in L.
 abbrev pub IsSortedIn : List Insert → List Insert → Type 0
 IsSortedIn S [] = Unit {0}
 IsSortedIn S (a ∷ L) = ((b : Insert) → In b L → Before S a.id b.id) × IsSortedIn S L
@@ -51,8 +51,8 @@ insert_after Start x L = x ∷ L
 insert_after (After r) x [] = x ∷ []
 insert_after (After r) x (e ∷ L) = if id_eq e.id r then e ∷ x ∷ L else e ∷ insert_after (After r) x L
 
--- The new list is the old one with x put in somewhere, and where the old one stood in order for a tree, the new one
--- stands in order for that tree with x.
+-- The new list is the old one with x put in somewhere, and where the old one was in order for a tree, the new one
+-- is in order for that tree with x.
 pub record IsInserted (old new : List Insert) (x : Insert) : Type 0 where
   pub put : (i : ℕ) × (i ≤ length old) × (new ≡ insert old i x)
   pub order : (S : List Insert) → IsTree S → IsInOrder S old → IsInOrder (S ++ x ∷ []) new

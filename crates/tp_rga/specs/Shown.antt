@@ -13,16 +13,16 @@ abbrev pub is_removed : List (OpId × OpId) → OpId → Bool
 is_removed R x = list_any (λ r. id_eq r.0 x) R
 
 -- The elements of L that no delete of R names.
-abbrev pub shown : List (OpId × OpId) → List Insert → List Insert
-shown R L = filter (λ e. not (is_removed R e.id)) L
+abbrev pub visible_of : List (OpId × OpId) → List Insert → List Insert
+visible_of R L = filter (λ e. not (is_removed R e.id)) L
 
 -- The index in L of the first element with the identifier x, or `None` where none has it.
 abbrev pub index_in : List Insert → OpId → Option ℕ
 index_in L x = position (λ e. id_eq e.id x) L
 
--- How many shown elements stand before the element x of L, or `None` where L lacks it.
-abbrev pub shown_before : List (OpId × OpId) → List Insert → OpId → Option ℕ
-shown_before R L x = option_map (λ i. length (shown R (take i L))) (position (λ e. id_eq e.id x) L)
+-- How many shown elements are before the element x of L, or `None` where L lacks it.
+abbrev pub visible_before : List (OpId × OpId) → List Insert → OpId → Option ℕ
+visible_before R L x = option_map (λ i. length (visible_of R (take i L))) (position (λ e. id_eq e.id x) L)
 
 -- An insert as a caller sees it.
 abbrev pub element_of : List (OpId × OpId) → Insert → Element

@@ -29,7 +29,7 @@ fn precedes(c: &[OpId], d: &[OpId]) -> bool
     c.len() < d.len()
 }
 
-/// The identifiers from the element that stands after the start, along references, to an element.
+/// The identifiers from the element that is placed after the start, along references, to an element.
 fn chain_of(alloc: Global, inserts: &[Insertion], id: &OpId) -> Result<Vec<OpId>, AllocError>
     requires tree { IsTree inserts.now }
     requires there { IsThere inserts.now id.now }
@@ -58,7 +58,7 @@ fn reference_of(inserts: &[Insertion], id: &OpId) -> Place
     }
 }
 
-/// Whether an element stands before another.
+/// Whether an element is before another.
 fn is_before(alloc: Global, inserts: &[Insertion], x: &OpId, y: &OpId) -> Result<bool, AllocError>
     requires tree { IsTree inserts.now }
     requires first { IsThere inserts.now x.now }
@@ -70,7 +70,7 @@ fn is_before(alloc: Global, inserts: &[Insertion], x: &OpId, y: &OpId) -> Result
     Ok(precedes(&c, &d))
 }
 
-/// The index in a list in order where a new element stands: past those that are before it.
+/// The index in a list in order where a new element is placed: past those that are before it.
 fn index_in(
     alloc: Global,
     inserts: &[Insertion],
@@ -95,8 +95,8 @@ fn index_in(
     Ok(list.len())
 }
 
-/// The elements of a set of inserts in the order of the text, straight from the definition: each once, where it stands by
-/// the order of chains. The inserts may stand in any order.
+/// The elements of a set of inserts in the order of the text, straight from the definition: each once, where it is by
+/// the order of chains. The inserts may be in any order.
 ///
 /// The caller sees to it that they are a tree, by `is_tree`. The only refusal is for want of memory. The cost grows
 /// with the square of the number of inserts, times that of finding a chain; it is for comparing, not for use.
@@ -115,7 +115,7 @@ pub fn in_order(alloc: Global, inserts: &[Insertion]) -> Result<Vec<Insertion>, 
     Ok(list)
 }
 
-/// Whether the inserts are a tree: no identifier is that of two different inserts, and each insert stands after the
+/// Whether the inserts are a tree: no identifier is that of two different inserts, and each insert is placed after the
 /// start or after an element that is there and has a smaller identifier.
 pub fn is_tree(inserts: &[Insertion]) -> bool
     ensures { IsTrue result ↔ IsTree inserts.now }

@@ -6,9 +6,9 @@ ghost use Rattle.std.specs.Prelude.{◌≡◌, ◌⊎◌, ℕ, Bool, List, [], �
 ghost use Rattle.tp_list.specs.Members.{AllIn, SameMembers};
 ghost use Rattle.tp_opid.specs.declared.op_id.OpId.{OpId as Id};
 ghost use Rattle.tp_opid.specs.Insert.{Insert};
-ghost use Rattle.tp_opid.specs.Tree.{IsThere, AreApart, IsAboveAll, IsTree, CanInsert};
+ghost use Rattle.tp_opid.specs.Tree.{IsThere, IdsApart, IsAboveAll, IsTree, CanInsert};
 ghost use Rattle.tp_rga.specs.Order.{Before, IsInOrder, IsInserted, insert_after};
-ghost use Rattle.tp_rga.specs.Shown.{shown};
+ghost use Rattle.tp_rga.specs.Shown.{visible_of};
 
 /// A tree with an insert that it can take is a tree.
 pub fn tree_grows()
@@ -58,18 +58,18 @@ pub fn order_of_set()
     ensures { (S T L : List Insert) → SameMembers S T → IsInOrder S L → IsInOrder T L }
 {}
 
-/// In a list in order each element stands once.
-pub fn stands_once()
-    ensures { (S L : List Insert) → IsTree S → IsInOrder S L → AreApart L }
+/// In a list in order each element is there once.
+pub fn present_once()
+    ensures { (S L : List Insert) → IsTree S → IsInOrder S L → IdsApart L }
 {}
 
-/// A part of a tree that is itself a tree stands in order in that part of the list.
+/// A part of a tree that is itself a tree is in order in that part of the list.
 pub fn order_of_part()
     ensures { (S L : List Insert) (keep : Insert → Bool) → IsTree S → IsTree (filter keep S)
         → IsInOrder S L → IsInOrder (filter keep S) (filter keep L) }
 {}
 
-/// An element whose identifier is above all others stands directly after its reference.
+/// An element whose identifier is above all others is directly after its reference.
 pub fn greatest_next()
     ensures { (S L : List Insert) (x : Insert) → IsTree S → IsInOrder S L → CanInsert S x.id x.after
         → IsAboveAll S x.id → IsInOrder (S ++ x ∷ []) (insert_after x.after x L) }
@@ -90,12 +90,12 @@ pub fn inserted_members()
 
 /// What is shown depends on the deletes as a set.
 pub fn shown_of_set()
-    ensures { (R Q : List (Id × Id)) (L : List Insert) → SameMembers R Q → shown R L ≡ shown Q L }
+    ensures { (R Q : List (Id × Id)) (L : List Insert) → SameMembers R Q → visible_of R L ≡ visible_of Q L }
 {}
 
 /// Two lists in order for one set of inserts, under one set of deletes, show one text: who has the same operations
 /// has the same text, in whatever order they came.
 pub fn same_text()
     ensures { (S T L M : List Insert) (R Q : List (Id × Id)) → IsTree S → SameMembers S T
-        → SameMembers R Q → IsInOrder S L → IsInOrder T M → shown R L ≡ shown Q M }
+        → SameMembers R Q → IsInOrder S L → IsInOrder T M → visible_of R L ≡ visible_of Q M }
 {}

@@ -1,6 +1,6 @@
 //! The elements in their order, as they are kept, and where an insert goes.
 
-ghost use Rattle.std.specs.Prelude.{◌≡◌, ◌↔◌, ℕ, ◌<◌, ◌≤◌, Bool, true, false, length, insert, position, take, IsTrue, MatchBool, IfSome, IfNone};
+ghost use Rattle.std.specs.Prelude.{◌≡◌, ◌↔◌, ℕ, ◌<◌, ◌≤◌, true, false, length, insert, position, take, IsTrue, MatchBool, IfSome, IfNone};
 ghost use Rattle.std.specs.List.{All, AllWithin, HoldsAt};
 ghost use Rattle.tp_opid.specs.Insert.{Insert};
 ghost use Rattle.tp_opid.specs.Order.{Below};
@@ -21,7 +21,7 @@ pub fn index_of(elements: &[Insertion], id: &OpId) -> Option<usize>
 /// The index of an element with an identifier, searched from the end, where edits mostly fall.
 fn last_index_of(elements: &[Insertion], id: &OpId) -> Option<usize>
     ensures found { IfSome result
-        (λ i. (i < length elements.now) × HoldsAt (λ e. id_eq e.id id.now ≡ true) elements.now i) }
+        (λ i. (i < length elements.now) × HoldsAt (λ e. IsTrue (id_eq e.id id.now)) elements.now i) }
     ensures none { IfNone result (All (λ e. id_eq e.id id.now ≡ false) elements.now) }
 {
     elements.iter().rposition(|e| e.id.is(id))
@@ -55,7 +55,7 @@ pub fn contains(elements: &[Insertion], id: &OpId) -> bool
     }
 }
 
-/// Whether a reference is the start, or an element that is there and stands below an identifier.
+/// Whether a reference is the start, or an element that is there and is below an identifier.
 pub fn is_reference_below(elements: &[Insertion], id: &OpId, place: &Place) -> bool
     ensures { IsTrue result ↔ IsReferenceBelow elements.now id.now place.now }
 {
@@ -72,7 +72,7 @@ pub fn can_insert(elements: &[Insertion], id: &OpId, after: &Place) -> bool
     !contains(elements, id) && is_reference_below(elements, id, after)
 }
 
-/// How many elements stand up to a reference: none up to the start.
+/// How many elements there are up to a reference: none up to the start.
 fn up_to(elements: &[Insertion], place: &Place) -> usize
     requires { HasReference elements.now place.now }
     ensures within { result ≤ length elements.now }

@@ -15,9 +15,9 @@ use std::marker::Model;
 use tp_list::copy_with_room;
 use tp_opid::{OpId, Place};
 
-/// A sequence whose elements stand in one vector, in order.
+/// A sequence whose elements are in one vector, in order.
 ///
-/// An insert searches its reference from the end and moves what stands behind the new element; a delete searches its
+/// An insert searches its reference from the end and moves what is after the new element; a delete searches its
 /// target from the start. A read by position passes over a byte for each element before it, `len` and `all` over none.
 pub struct PlainSequence {
     elements: Vec<Insertion>,
@@ -167,7 +167,7 @@ impl Sequence for PlainSequence {
     }
 
     /// A copy of the vectors, in one pass over each. It is never `None`.
-    fn copied(&self, alloc: Global) -> Result<Option<Self>, AllocError>
+    fn try_copy(&self, alloc: Global) -> Result<Option<Self>, AllocError>
         ensures placed { IfOk result (λ copy. IfSome copy (λ s. s.placed ≡ self.now.placed)) }
         ensures removals { IfOk result (λ copy. IfSome copy (λ s. s.removals ≡ self.now.removals)) }
         ensures given { IfOk result (λ copy. IsSome copy) }

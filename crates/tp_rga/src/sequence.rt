@@ -6,7 +6,7 @@ ghost use Rattle.tp_opid.specs.declared.op_id.OpId.{OpId as Id};
 ghost use Rattle.tp_opid.specs.Insert.{Insert};
 ghost use Rattle.tp_opid.specs.Tree.{IsThere, CanInsert};
 ghost use Rattle.tp_rga.specs.Order.{IsInserted};
-ghost use Rattle.tp_rga.specs.Shown.{shown, shown_before, index_in, element_of, seen_of};
+ghost use Rattle.tp_rga.specs.Shown.{visible_of, visible_before, index_in, element_of, seen_of};
 ghost use Rattle.tp_rga.specs.declared.walk.Spot.{Spot as SpotOf};
 
 use crate::element::Element;
@@ -26,8 +26,8 @@ pub trait Sequence: Drop {
 
     ghost room: { Self → ℕ };
 
-    // At the spot stands the element with the index, or there the elements end.
-    ghost stands_at: { Self → SpotOf → ℕ → Type 0 } = { λ _ _ _. ⊥ };
+    // At the spot is the element with the index, or there the elements end.
+    ghost present_at: { Self → SpotOf → ℕ → Type 0 } = { λ _ _ _. ⊥ };
 
     /// A sequence without elements, which takes no memory.
     fn new(alloc: Global) -> Self
@@ -46,7 +46,7 @@ pub trait Sequence: Drop {
         ensures room { room self.old ≤ room self.new };
 
     /// Takes in an insert: the element goes right after its reference, past each element with a greater identifier up
-    /// to the first that has none. Where the elements stood in order, they stand in order with the new one.
+    /// to the first that has none. Where the elements were in order, they are in order with the new one.
     ///
     /// The caller sees to it that the identifier is new and the reference there and smaller, by `can_insert`. Where
     /// memory is short it is an `Err`, and nothing changes.
@@ -81,22 +81,22 @@ pub trait Sequence: Drop {
 
     /// How many characters the text has.
     fn len(&self) -> usize
-        ensures { result ≡ length (shown (removals self.now) (placed self.now)) };
+        ensures { result ≡ length (visible_of (removals self.now) (placed self.now)) };
 
     /// The character at a position of the text, or `None` past its end.
     fn char_at(&self, i: usize) -> Option<char>
         ensures { result
-            ≡ option_map (λ e. e.ch) (slice_get (shown (removals self.now) (placed self.now)) i) };
+            ≡ option_map (λ e. e.ch) (slice_get (visible_of (removals self.now) (placed self.now)) i) };
 
     /// The identifier of the element at a position of the text, or `None` past its end.
     fn id_at(&self, i: usize) -> Option<OpId>
         ensures { result
-            ≡ option_map (λ e. e.id) (slice_get (shown (removals self.now) (placed self.now)) i) };
+            ≡ option_map (λ e. e.id) (slice_get (visible_of (removals self.now) (placed self.now)) i) };
 
-    /// How many characters of the text stand before an element, which may be deleted; `None` where no element has
+    /// How many characters of the text are before an element, which may be deleted; `None` where no element has
     /// that identifier.
     fn position(&self, id: &OpId) -> Option<usize>
-        ensures { result ≡ shown_before (removals self.now) (placed self.now) id.now };
+        ensures { result ≡ visible_before (removals self.now) (placed self.now) id.now };
 
     /// The index of an element in the list of all elements, deleted ones among them; `None` where no element has that
     /// identifier. A sequence that doesn't know it goes over the elements before it.
@@ -125,13 +125,13 @@ pub trait Sequence: Drop {
     fn deletes(&self) -> &[(OpId, OpId)]
         ensures { result.now ≡ removals self.now };
 
-    /// The next element of a walk, which goes on behind it, or `None` past the end. A walk from [`Walk::start`] on shows
-    /// all elements in their order, and each costs no look-up where the sequence notes where it stands.
+    /// The next element of a walk, which goes on after it, or `None` past the end. A walk from [`Walk::start`] on shows
+    /// all elements in their order, and each costs no look-up where the sequence notes where it is.
     fn next_element(&self, walk: &mut Walk) -> Option<Seen>
-        requires { IfSome walk.old.spot (λ spot. stands_at self.now spot walk.old.index) }
+        requires { IfSome walk.old.spot (λ spot. present_at self.now spot walk.old.index) }
         ensures seen { result ≡ option_map (seen_of (removals self.now))
             (slice_get (placed self.now) walk.old.index) }
-        ensures spot { IfSome walk.new.spot (λ spot. stands_at self.now spot walk.new.index) }
+        ensures spot { IfSome walk.new.spot (λ spot. present_at self.now spot walk.new.index) }
         ensures next { OnSome result (walk.new.index ≡ walk.old.index + 1) }
     {
         if walk.index == usize::MAX {
@@ -151,10 +151,10 @@ pub trait Sequence: Drop {
         })
     }
 
-    /// A sequence with the same elements and deletes, where it can be copied as it stands: no element is looked up or put
+    /// A sequence with the same elements and deletes, where it can be copied as it is: no element is looked up or put
     /// in anew. It is `None` where a sequence doesn't offer that, and a copy has to be made by calls of `insert` and
     /// `delete`. The copy may have less room. Where memory is short it is an `Err`.
-    fn copied(&self, alloc: Global) -> Result<Option<Self>, AllocError>
+    fn try_copy(&self, alloc: Global) -> Result<Option<Self>, AllocError>
         ensures placed { IfOk result (λ copy. IfSome copy (λ s. placed s ≡ placed self.now)) }
         ensures removals { IfOk result (λ copy. IfSome copy (λ s. removals s ≡ removals self.now)) }
     {

@@ -15,13 +15,13 @@ pub struct Seen {
     pub deleted: bool,
 }
 
-/// A spot in a sequence that is kept in blocks: which block in list order, from 0, and how many of its elements stand
+/// A spot in a sequence that is kept in blocks: which block in list order, from 0, and how many of its elements are
 /// before.
 #[derive(Clone, Copy, Debug)]
 pub struct Spot {
     /// Which block.
     pub block: usize,
-    /// How many of its elements stand before.
+    /// How many of its elements are before.
     pub offset: usize,
 }
 
@@ -31,7 +31,7 @@ pub struct Spot {
 pub struct Walk {
     /// The index of the next element in the list of all elements.
     pub index: usize,
-    /// Where the next element stands, if the sequence noted it. Without it the element is looked up by its index.
+    /// Where the next element is, if the sequence noted it. Without it the element is looked up by its index.
     pub spot: Option<Spot>,
 }
 

@@ -11,15 +11,15 @@ code_of BadSeats = 3
 code_of OutOfMemory = 4
 
 -- What came of one try: the word was found taken; the peer replied; or an answer that no try gives.
-pub data Answer : Type 0 where
-  Missed : Answer
-  Replied : Reply → Answer
-  Never : Answer
+pub data TryOutcome : Type 0 where
+  Missed : TryOutcome
+  Replied : Reply → TryOutcome
+  Never : TryOutcome
 
 -- what came of a try by its result
-abbrev pub answered : {T : Type 0} → (T → Reply) → Result T ServedError → Answer
-answered f (Ok x) = Replied (f x)
-answered f (Err Busy) = Missed
-answered f (Err (Peer e)) = Replied (Refused e)
-answered f (Err BadSeats) = Never
-answered f (Err OutOfMemory) = Never
+abbrev pub outcome_of_try : {T : Type 0} → (T → Reply) → Result T ServedError → TryOutcome
+outcome_of_try f (Ok x) = Replied (f x)
+outcome_of_try f (Err Busy) = Missed
+outcome_of_try f (Err (Peer e)) = Replied (Refused e)
+outcome_of_try f (Err BadSeats) = Never
+outcome_of_try f (Err OutOfMemory) = Never

@@ -74,7 +74,7 @@ impl<J: Journal> Served<J> {
         }
     }
 
-    // The same, where the seats are all.
+    // Closes as `close` does, where the seats are all.
     fn end(self, last: Seat, seats: Vec<Seat>) -> Peer<J>
         requires last { last.served ≡ self.served }
         requires seats { AreOf self.served seats.items }

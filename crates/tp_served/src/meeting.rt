@@ -1,8 +1,8 @@
 //! Two seats that meet.
 
 ghost use Rattle.std.specs.Prelude.{◌≡◌, [], ◌∷◌};
-ghost use Rattle.tp_served.specs.Rule.{alone};
-ghost use Rattle.tp_served.specs.Seats.{HaveMet, SeatState};
+ghost use Rattle.tp_served.specs.Rule.{idle_seat};
+ghost use Rattle.tp_served.specs.Seats.{HaveMet, SeatKnowledge};
 
 use crate::rule::{Apart, Look, Together, View};
 use crate::seat::Seat;
@@ -14,9 +14,9 @@ use tp_peer::Peer;
 
 // The token of a seat, in whose place a blank badge is left.
 fn token_out<J: Journal>(badge: &mut Badge<View>) -> Token<Option<Peer<J>>, View>
-    requires { (t : SeatState) × (badge.old.views ≡ alone t ∷ []) }
+    requires { (t : SeatKnowledge) × (badge.old.views ≡ idle_seat t ∷ []) }
     ensures table { result.table_id ≡ badge.old.table_id }
-    ensures seat { (t : SeatState) → badge.old.views ≡ alone t ∷ [] → result.me ≡ (alone t, []) }
+    ensures seat { (t : SeatKnowledge) → badge.old.views ≡ idle_seat t ∷ [] → result.me ≡ (idle_seat t, []) }
 {
     mem::replace(badge, Badge::blank()).into_seat()
 }

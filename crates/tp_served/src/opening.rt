@@ -1,10 +1,10 @@
 //! Opening a served peer.
 
 ghost use Rattle.std.specs.Prelude.{◌≡◌, ℕ, ◌+◌, ◌≤◌, ◌<◌, [], ◌++◌, length, Some, None, IfOk, IfErr, vec_len, vec_capacity};
-ghost use Rattle.tp_peer.specs.PeerData.{PeerData};
+ghost use Rattle.tp_peer.specs.PeerState.{PeerState};
 ghost use Rattle.tp_served.specs.Seats.{fresh_from, seats_of};
 ghost use Rattle.tp_served.specs.Rule.{idle};
-ghost use Rattle.tp_served.specs.Calls.{NotServed};
+ghost use Rattle.tp_served.specs.Calls.{RefusesServing};
 
 use crate::error::ServedError;
 use crate::rule::{Apart, Opening, View};
@@ -51,7 +51,7 @@ fn table_of<J: Journal>(
     }
 }
 
-// Parts the seats that are joined in the token, and puts them behind one another.
+// Parts the seats that are joined in the token, and puts them in a list.
 fn part<J: Journal>(
     table: &Shared<J>,
     token: Token<Option<Peer<J>>, View>,
@@ -60,9 +60,9 @@ fn part<J: Journal>(
 )
     requires word { table.now.shared.table_id.words ≡ 1 }
     requires token { token.table_id ≡ table.now.shared.table_id }
-    requires joined { (p : PeerData) × (token.me ≡ (idle (fresh_from p 0 count), [])) }
+    requires joined { (p : PeerState) × (token.me ≡ (idle (fresh_from p 0 count), [])) }
     requires room { (seats.old.items ≡ []) × (vec_len seats.old + count ≤ vec_capacity seats.old) }
-    ensures { (p : PeerData) → token.me ≡ (idle (fresh_from p 0 count), [])
+    ensures { (p : PeerState) → token.me ≡ (idle (fresh_from p 0 count), [])
         → seats.new.items ≡ seats_of table.now.shared.table_id (fresh_from p 0 count) }
 {
     let mut token = token;
@@ -89,7 +89,7 @@ impl<J: Journal> Served<J> {
         ensures served { IfOk result (λ r. (r.0.opened ≡ peer) × (r.0.count ≡ seats)
             × (r.1.items ≡ seats_of r.0.served (fresh_from peer 0 seats))) }
         ensures some { IfOk result (λ _. (0 < seats) × (seats ≤ 64)) }
-        ensures err { IfErr result (λ u. NotServed seats peer u.error u.peer) }
+        ensures err { IfErr result (λ u. RefusesServing seats peer u.error u.peer) }
     {
         if seats == 0 || seats > MAX_SEATS {
             return Err(Unserved {
@@ -107,7 +107,7 @@ impl<J: Journal> Served<J> {
     }
 }
 
-// The same, where the number of seats is right.
+// Opens as `open` does, where the number of seats is right.
 fn open_with<J: Journal>(
     alloc: Global,
     peer: Peer<J>,

@@ -1,6 +1,6 @@
 //! The rule of the shared state, and its steps. These types are for the proofs alone.
 
-ghost use Rattle.tp_served.specs.Steps.{first_of, given, joined, looked, others_of, spent, tried};
+ghost use Rattle.tp_served.specs.Steps.{first_view_of, give_step, join_views, look_step, others_of, spent_view, try_step};
 
 use atomic_table::{Join, Play, Split, TableRule};
 use std::marker::Model;
@@ -20,7 +20,7 @@ impl Model for View {
     ghost view = { λ _. idle [] };
 }
 
-/// What the table is told as it is made: the peer that is opened, and how many seats it gets.
+/// What the table is given as it is made: the peer that is opened, and how many seats it gets.
 #[derive(Drop)]
 pub(crate) struct Opening<J: Journal> {
     pub(crate) peer: Snapshot<Peer<J>>,
@@ -31,9 +31,9 @@ pub(crate) struct Rule;
 
 impl<J: Journal> TableRule<Option<Peer<J>>, View, Opening<J>> for Rule {
     ghost use Rattle.tp_served.specs.Seats.{fresh_from};
-    ghost use Rattle.tp_served.specs.Rule.{IsServed, idle};
+    ghost use Rattle.tp_served.specs.Rule.{ServedInvariant, idle};
 
-    ghost holds = { λ key. IsServed key.peer.value key.count };
+    ghost holds = { λ key. ServedInvariant key.peer.value key.count };
 
     ghost first = { λ key. idle (fresh_from key.peer.value 0 key.count) };
 }
@@ -42,37 +42,37 @@ impl<J: Journal> TableRule<Option<Peer<J>>, View, Opening<J>> for Rule {
 pub(crate) struct Take;
 
 impl<J: Journal> Play<Option<Peer<J>>, View> for Take {
-    ghost then = { tried };
+    ghost then = { try_step };
 }
 
 /// Give back.
 pub(crate) struct Give;
 
 impl<J: Journal> Play<Option<Peer<J>>, View> for Give {
-    ghost then = { given };
+    ghost then = { give_step };
 }
 
 /// Look.
 pub(crate) struct Look;
 
 impl<J: Journal> Play<Option<Peer<J>>, View> for Look {
-    ghost then = { looked };
+    ghost then = { look_step };
 }
 
 /// Join.
 pub(crate) struct Together;
 
 impl Join<View> for Together {
-    ghost both = { joined };
+    ghost both = { join_views };
 
-    ghost spent = { spent };
+    ghost spent = { spent_view };
 }
 
 /// Split.
 pub(crate) struct Apart;
 
 impl Split<View> for Apart {
-    ghost left = { first_of };
+    ghost left = { first_view_of };
 
     ghost right = { others_of };
 }

@@ -9,8 +9,8 @@ use std::marker::Model;
 /// A thread's right to make calls on a served peer, one at a time. It is made by `Served::open`, has a number from 0,
 /// and goes back at `Served::close`. A seat that is dropped keeps its peer from being closed.
 ///
-/// Contracts see which served peer it is of, and a `SeatState`: what its turns found, left and entered. At run time it
-/// is its number alone.
+/// Contracts see which served peer it is of, and a `SeatKnowledge`: what its turns found, left and entered. At run time
+/// it is its number alone.
 #[derive(Drop)]
 pub struct Seat {
     pub(crate) number: u8,
@@ -18,12 +18,12 @@ pub struct Seat {
 }
 
 impl Model for Seat {
-    ghost use Rattle.tp_served.specs.Seats.{SeatData};
-    ghost use Rattle.tp_served.specs.Sitting.{seat_data, IsSeat};
+    ghost use Rattle.tp_served.specs.Seats.{SeatState};
+    ghost use Rattle.tp_served.specs.Sitting.{seat_state, IsSeat};
 
-    ghost Value = { SeatData };
+    ghost Value = { SeatState };
 
-    ghost view = { λ s. seat_data s.badge.table_id s.badge.views };
+    ghost view = { λ s. seat_state s.badge.table_id s.badge.views };
 
     ghost invariant = { λ s. IsSeat s.number s.badge.table_id s.badge.views };
 }

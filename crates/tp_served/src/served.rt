@@ -12,7 +12,7 @@ use tp_peer::Peer;
 
 pub(crate) type Shared<J> = Table<Option<Peer<J>>, View, Opening<J>, Rule, Global>;
 
-/// A peer that the threads with its seats share. The peer stands in one slot, and one word says whether it is there: a
+/// A peer that the threads with its seats share. The peer is in one slot, and one word says whether it is there: a
 /// call takes it out by one compare-exchange of the word from 0 to 1, and gives it back by one store of 0.
 ///
 /// The forms of a call that begin with `try_` answer `Busy` where the word was taken, and return always. The others try
@@ -30,9 +30,9 @@ pub struct Served<J: Journal> {
 
 impl<J: Journal> Model for Served<J> {
     ghost use Rattle.std.specs.Prelude.{◌≡◌, ◌<◌};
-    ghost use Rattle.tp_served.specs.Seats.{ServedData};
+    ghost use Rattle.tp_served.specs.Seats.{ServedState};
 
-    ghost Value = { ServedData };
+    ghost Value = { ServedState };
 
     ghost view = { λ s. record { served = s.table.shared.table_id; opened = s.table.shared.key.peer.value; count = s.table.shared.key.count } };
 

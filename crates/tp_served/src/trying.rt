@@ -3,12 +3,12 @@
 ghost use Rattle.std.specs.Prelude.{◌≡◌, MatchOption};
 ghost use Rattle.std.specs.Str.{chars};
 ghost use Rattle.std.specs.String.{string_bytes};
-ghost use Rattle.tp_sync.specs.Spelling.{message_spelling};
-ghost use Rattle.tp_peer.specs.Calls.{call_in, reply_of};
-ghost use Rattle.tp_peer.specs.PeerStep.{Edit, Made, Receive, Received as Reported, Generate, Generated, Forget, Forgotten, Read, Reply as ReplyOf, Text, replied};
+ghost use Rattle.tp_message.specs.Spelling.{message_spelling};
+ghost use Rattle.tp_call.specs.Calls.{call_in, reply_of};
+ghost use Rattle.tp_peer.specs.PeerStep.{Edit, Made, Receive, Received as Reported, Generate, Generated, Forget, Forgotten, Read, Reply as ReplyOf, Text, reply_of_result};
 ghost use Rattle.tp_peer.specs.Sent.{sent_of};
 ghost use Rattle.tp_peer.specs.Taking.{report_of};
-ghost use Rattle.tp_served.specs.ServedError.{Missed, Replied, answered};
+ghost use Rattle.tp_served.specs.ServedError.{Missed, Replied, outcome_of_try};
 ghost use Rattle.tp_served.specs.Calls.{IsOnlyOn, Tries};
 
 use crate::error::ServedError;
@@ -16,15 +16,16 @@ use crate::seat::Seat;
 use crate::served::Served;
 use atomic_table::Badge;
 use std::mem;
+use tp_call::{Call, Reply, Request};
 use tp_edit::Splice;
 use tp_journal::Journal;
 use tp_opid::Hash;
-use tp_peer::{Call, Link, Outgoing, PeerError, Received, Reply, Request};
+use tp_peer::{Link, Outgoing, PeerError, Received};
 use tp_sync::Message;
 
 // What the peer answered, as the answer of a try.
 fn of_peer<T>(outcome: Result<T, PeerError>) -> Result<T, ServedError>
-    ensures { (f : T → ReplyOf) → answered f result ≡ Replied (replied f outcome) }
+    ensures { (f : T → ReplyOf) → outcome_of_try f result ≡ Replied (reply_of_result f outcome) }
 {
     match outcome {
         Ok(value) => Ok(value),
@@ -62,7 +63,7 @@ impl<J: Journal> Served<J> {
         requires { seat.old.served ≡ self.now.served }
         ensures served { seat.new.served ≡ seat.old.served }
         ensures tries { Tries seat.old.state Read
-            (answered (λ t. Text (chars (string_bytes t))) result) seat.new.state }
+            (outcome_of_try (λ t. Text (chars (string_bytes t))) result) seat.new.state }
     {
         match self.try_call(seat, Request::Call(Call::Read)) {
             Some(reply) => of_peer(reply.into_text()),
@@ -81,7 +82,7 @@ impl<J: Journal> Served<J> {
         requires { seat.old.served ≡ self.now.served }
         ensures served { seat.new.served ≡ seat.old.served }
         ensures tries { Tries seat.old.state (Edit splices.now time (chars message.now))
-            (answered Made result) seat.new.state }
+            (outcome_of_try Made result) seat.new.state }
     {
         match self.try_call(
             seat,
@@ -102,7 +103,7 @@ impl<J: Journal> Served<J> {
         requires { seat.old.served ≡ self.now.served }
         ensures served { seat.new.served ≡ seat.old.served }
         ensures tries { Tries seat.old.state (Receive seat.old.state.number bytes.now)
-            (answered (λ r. Reported (report_of r.applied) r.same_heads) result)
+            (outcome_of_try (λ r. Reported (report_of r.applied) r.same_heads) result)
             seat.new.state }
     {
         let link = Link(seat.number());
@@ -123,7 +124,7 @@ impl<J: Journal> Served<J> {
         ensures served { seat.new.served ≡ seat.old.served }
         ensures tries { Tries seat.old.state
             (Receive seat.old.state.number (message_spelling message))
-            (answered (λ r. Reported (report_of r.applied) r.same_heads) result)
+            (outcome_of_try (λ r. Reported (report_of r.applied) r.same_heads) result)
             seat.new.state }
     {
         let link = Link(seat.number());
@@ -139,7 +140,7 @@ impl<J: Journal> Served<J> {
         requires { seat.old.served ≡ self.now.served }
         ensures served { seat.new.served ≡ seat.old.served }
         ensures tries { Tries seat.old.state (Generate seat.old.state.number)
-            (answered (λ sent. Generated (sent_of sent)) result)
+            (outcome_of_try (λ sent. Generated (sent_of sent)) result)
             seat.new.state }
     {
         let link = Link(seat.number());
@@ -154,7 +155,7 @@ impl<J: Journal> Served<J> {
         requires { seat.old.served ≡ self.now.served }
         ensures served { seat.new.served ≡ seat.old.served }
         ensures tries { Tries seat.old.state (Forget seat.old.state.number)
-            (answered (λ _. Forgotten) result)
+            (outcome_of_try (λ _. Forgotten) result)
             seat.new.state }
     {
         let link = Link(seat.number());

@@ -1,19 +1,20 @@
 //! A seat's turn: the peer is taken out of its slot, and put back.
 
 ghost use Rattle.std.specs.Prelude.{◌≡◌, [], ◌∷◌, None, IfOk, IfErr};
-ghost use Rattle.tp_peer.specs.Calls.{call_in, reply_of};
-ghost use Rattle.tp_peer.specs.PeerData.{PeerData};
-ghost use Rattle.tp_served.specs.Seats.{SeatState, gave, missed_by};
-ghost use Rattle.tp_served.specs.Rule.{alone, holds};
-ghost use Rattle.tp_served.specs.Steps.{Serves};
+ghost use Rattle.tp_call.specs.Calls.{call_in, reply_of};
+ghost use Rattle.tp_peer.specs.PeerState.{PeerState};
+ghost use Rattle.tp_served.specs.Seats.{SeatKnowledge, gave, missed_by};
+ghost use Rattle.tp_served.specs.Rule.{idle_seat, holding_seat};
+ghost use Rattle.tp_served.specs.Steps.{StepsAsSeat};
 ghost use Rattle.tp_served.specs.Calls.{EndsTurn, EndsVisit, IsOnlyOn, IsTurn};
 
 use crate::rule::{Give, Take, View};
 use crate::served::Served;
 use crate::visitor::Visitor;
 use atomic_table::{Badge, Seat as Token};
+use tp_call::{Reply, Request};
 use tp_journal::Journal;
-use tp_peer::{Peer, Reply, Request};
+use tp_peer::Peer;
 
 /// The peer, out with the seat that has its turn. It ends in `give`.
 pub(crate) struct Turn<J: Journal> {
@@ -25,12 +26,12 @@ impl<J: Journal> Served<J> {
     /// Takes the peer for the seat, by one compare-exchange. Where the word was taken the seat comes back.
     pub(crate) fn take(&self, badge: Badge<View>) -> Result<Turn<J>, Badge<View>>
         requires served { badge.table_id ≡ self.now.served }
-        requires seat { (t : SeatState) × (badge.views ≡ alone t ∷ []) }
+        requires seat { (t : SeatKnowledge) × (badge.views ≡ idle_seat t ∷ []) }
         ensures taken { IfOk result (λ turn. (turn.token.table_id ≡ self.now.served)
-            × ((t : SeatState) → badge.views ≡ alone t ∷ [] → IsTurn t turn.token.me turn.peer)) }
+            × ((t : SeatKnowledge) → badge.views ≡ idle_seat t ∷ [] → IsTurn t turn.token.me turn.peer)) }
         ensures missed { IfErr result (λ back. (back.table_id ≡ self.now.served)
-            × ((t : SeatState) → badge.views ≡ alone t ∷ []
-            → back.views ≡ alone (missed_by 1 t) ∷ [])) }
+            × ((t : SeatKnowledge) → badge.views ≡ idle_seat t ∷ []
+            → back.views ≡ idle_seat (missed_by 1 t) ∷ [])) }
     {
         let mut token = badge.into_seat();
         let shared = &self.table.shared;
@@ -46,11 +47,11 @@ impl<J: Journal> Served<J> {
     /// Gives the peer back, by one store.
     pub(crate) fn give(&self, turn: Turn<J>) -> Badge<View>
         requires served { turn.token.table_id ≡ self.now.served }
-        requires turn { (t : SeatState) × (p : PeerData)
-            × (turn.token.me ≡ (holds p t, (0, None) ∷ [])) × Serves t.number p turn.peer }
+        requires turn { (t : SeatKnowledge) × (p : PeerState)
+            × (turn.token.me ≡ (holding_seat p t, (0, None) ∷ [])) × StepsAsSeat t.number p turn.peer }
         ensures served { result.table_id ≡ self.now.served }
-        ensures given { (t : SeatState) (p : PeerData) → turn.token.me ≡ (holds p t, (0, None) ∷ [])
-            → result.views ≡ alone (gave p turn.peer t) ∷ [] }
+        ensures given { (t : SeatKnowledge) (p : PeerState) → turn.token.me ≡ (holding_seat p t, (0, None) ∷ [])
+            → result.views ≡ idle_seat (gave p turn.peer t) ∷ [] }
     {
         let Turn { mut token, peer } = turn;
         let shared = &self.table.shared;
@@ -62,14 +63,14 @@ impl<J: Journal> Served<J> {
     /// Has the peer answer on the seat's turn, and ends it.
     pub(crate) fn call_on(&self, turn: Turn<J>, request: Request) -> (Badge<View>, Reply)
         requires served { turn.token.table_id ≡ self.now.served }
-        requires turn { (t : SeatState) × IsTurn t turn.token.me turn.peer
+        requires turn { (t : SeatKnowledge) × IsTurn t turn.token.me turn.peer
             × IsOnlyOn t.number (call_in request) }
         ensures served { result.0.table_id ≡ self.now.served }
-        ensures ends { (t : SeatState) → IsTurn t turn.token.me turn.peer
+        ensures ends { (t : SeatKnowledge) → IsTurn t turn.token.me turn.peer
             → EndsTurn t (call_in request.entry) (reply_of result.1) result.0.views }
     {
         let Turn { token, mut peer } = turn;
-        let reply = peer.answer(request);
+        let reply = request.ask(&mut peer);
         (self.give(Turn { token, peer }), reply)
     }
 
@@ -80,9 +81,9 @@ impl<J: Journal> Served<J> {
         visitor: &V,
     ) -> (Badge<View>, V::Answer)
         requires served { turn.token.table_id ≡ self.now.served }
-        requires turn { (t : SeatState) × IsTurn t turn.token.me turn.peer }
+        requires turn { (t : SeatKnowledge) × IsTurn t turn.token.me turn.peer }
         ensures served { result.0.table_id ≡ self.now.served }
-        ensures ends { (t : SeatState) → IsTurn t turn.token.me turn.peer
+        ensures ends { (t : SeatKnowledge) → IsTurn t turn.token.me turn.peer
             → EndsVisit t (V.does visitor.now) result.0.views }
     {
         let Turn { token, mut peer } = turn;

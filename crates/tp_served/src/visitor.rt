@@ -1,8 +1,8 @@
 //! What is done on a seat's turn, where it is more than one call.
 
 ghost use Rattle.std.specs.Prelude.{ℕ};
-ghost use Rattle.tp_peer.specs.PeerData.{PeerData};
-ghost use Rattle.tp_served.specs.Steps.{Serves};
+ghost use Rattle.tp_peer.specs.PeerState.{PeerState};
+ghost use Rattle.tp_served.specs.Steps.{StepsAsSeat};
 
 use tp_journal::Journal;
 use tp_peer::Peer;
@@ -14,12 +14,12 @@ pub trait Visitor<J: Journal> {
     type Answer;
 
     /// What it does: the visitor, the peer before, and the peer after.
-    ghost does: { Self → PeerData → PeerData → Type 0 };
+    ghost does: { Self → PeerState → PeerState → Type 0 };
 
     /// Visits the peer.
     fn visit(&self, peer: &mut Peer<J>) -> Self::Answer
         ensures { does self.now peer.old peer.new };
 
     /// The peer stays the same document under the same actor, its list grows at its end, and it knows what it knew on each link.
-    ghost serves: { (v : Self) (p p' : PeerData) → does v p p' → (n : ℕ) → Serves n p p' };
+    ghost serves: { (v : Self) (p p' : PeerState) → does v p p' → (n : ℕ) → StepsAsSeat n p p' };
 }

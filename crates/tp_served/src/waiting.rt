@@ -3,13 +3,13 @@
 ghost use Rattle.std.specs.Prelude.{◌≡◌, ℕ, [], ◌∷◌};
 ghost use Rattle.std.specs.Str.{chars};
 ghost use Rattle.std.specs.String.{string_bytes};
-ghost use Rattle.tp_sync.specs.Spelling.{message_spelling};
-ghost use Rattle.tp_peer.specs.Calls.{call_in, reply_of};
-ghost use Rattle.tp_peer.specs.PeerStep.{Edit, Made, Receive, Received as Reported, Generate, Generated, Forget, Forgotten, Read, Text, replied};
+ghost use Rattle.tp_message.specs.Spelling.{message_spelling};
+ghost use Rattle.tp_call.specs.Calls.{call_in, reply_of};
+ghost use Rattle.tp_peer.specs.PeerStep.{Edit, Made, Receive, Received as Reported, Generate, Generated, Forget, Forgotten, Read, Text, reply_of_result};
 ghost use Rattle.tp_peer.specs.Sent.{sent_of};
 ghost use Rattle.tp_peer.specs.Taking.{report_of};
-ghost use Rattle.tp_served.specs.Seats.{SeatState, Shows, Visits, missed_by};
-ghost use Rattle.tp_served.specs.Rule.{alone};
+ghost use Rattle.tp_served.specs.Seats.{SeatKnowledge, CallTakesTurn, Visits, missed_by};
+ghost use Rattle.tp_served.specs.Rule.{idle_seat};
 ghost use Rattle.tp_served.specs.Calls.{IsOnlyOn, IsTurn};
 
 use crate::rule::View;
@@ -20,19 +20,20 @@ use crate::visitor::Visitor;
 use atomic_table::Badge;
 use std::sync::Wait;
 use std::{mem, thread};
+use tp_call::{Call, Reply, Request};
 use tp_edit::Splice;
 use tp_journal::Journal;
 use tp_opid::Hash;
-use tp_peer::{Call, Link, Outgoing, PeerError, Received, Reply, Request};
+use tp_peer::{Link, Outgoing, PeerError, Received};
 use tp_sync::Message;
 
 impl<J: Journal> Served<J> {
     // Tries to take the peer until it has it.
     fn wait<R: Wait>(&self, rt: &R, badge: Badge<View>) -> Turn<J>
         requires served { badge.table_id ≡ self.now.served }
-        requires seat { (t : SeatState) × (badge.views ≡ alone t ∷ []) }
+        requires seat { (t : SeatKnowledge) × (badge.views ≡ idle_seat t ∷ []) }
         ensures served { result.token.table_id ≡ self.now.served }
-        ensures taken { (t : SeatState) → badge.views ≡ alone t ∷ []
+        ensures taken { (t : SeatKnowledge) → badge.views ≡ idle_seat t ∷ []
             → (k : ℕ) × IsTurn (missed_by k t) result.token.me result.peer }
     {
         let mut badge = badge;
@@ -51,7 +52,7 @@ impl<J: Journal> Served<J> {
         requires served { seat.old.served ≡ self.now.served }
         requires link { IsOnlyOn seat.old.state.number (call_in request) }
         ensures served { seat.new.served ≡ seat.old.served }
-        ensures shows { Shows seat.old.state (call_in request.entry) (reply_of result)
+        ensures shows { CallTakesTurn seat.old.state (call_in request.entry) (reply_of result)
             seat.new.state }
     {
         let badge = mem::replace(&mut seat.badge, Badge::blank());
@@ -78,8 +79,8 @@ impl<J: Journal> Served<J> {
     pub fn read<R: Wait>(&self, rt: &R, seat: &mut Seat) -> Result<String, PeerError>
         requires { seat.old.served ≡ self.now.served }
         ensures served { seat.new.served ≡ seat.old.served }
-        ensures shows { Shows seat.old.state Read
-            (replied (λ t. Text (chars (string_bytes t))) result) seat.new.state }
+        ensures shows { CallTakesTurn seat.old.state Read
+            (reply_of_result (λ t. Text (chars (string_bytes t))) result) seat.new.state }
     {
         let reply = self.call(rt, seat, Request::Call(Call::Read));
         reply.into_text()
@@ -96,8 +97,8 @@ impl<J: Journal> Served<J> {
     ) -> Result<Option<Hash>, PeerError>
         requires { seat.old.served ≡ self.now.served }
         ensures served { seat.new.served ≡ seat.old.served }
-        ensures shows { Shows seat.old.state (Edit splices.now time (chars message.now))
-            (replied Made result) seat.new.state }
+        ensures shows { CallTakesTurn seat.old.state (Edit splices.now time (chars message.now))
+            (reply_of_result Made result) seat.new.state }
     {
         let reply = self.call(
             rt,
@@ -121,8 +122,8 @@ impl<J: Journal> Served<J> {
     ) -> Result<Received, PeerError>
         requires { seat.old.served ≡ self.now.served }
         ensures served { seat.new.served ≡ seat.old.served }
-        ensures shows { Shows seat.old.state (Receive seat.old.state.number bytes.now)
-            (replied (λ r. Reported (report_of r.applied) r.same_heads) result)
+        ensures shows { CallTakesTurn seat.old.state (Receive seat.old.state.number bytes.now)
+            (reply_of_result (λ r. Reported (report_of r.applied) r.same_heads) result)
             seat.new.state }
     {
         let link = Link(seat.number());
@@ -140,9 +141,9 @@ impl<J: Journal> Served<J> {
     ) -> Result<Received, PeerError>
         requires { seat.old.served ≡ self.now.served }
         ensures served { seat.new.served ≡ seat.old.served }
-        ensures shows { Shows seat.old.state
+        ensures shows { CallTakesTurn seat.old.state
             (Receive seat.old.state.number (message_spelling message))
-            (replied (λ r. Reported (report_of r.applied) r.same_heads) result)
+            (reply_of_result (λ r. Reported (report_of r.applied) r.same_heads) result)
             seat.new.state }
     {
         let link = Link(seat.number());
@@ -155,8 +156,8 @@ impl<J: Journal> Served<J> {
     pub fn generate<R: Wait>(&self, rt: &R, seat: &mut Seat) -> Result<Option<Outgoing>, PeerError>
         requires { seat.old.served ≡ self.now.served }
         ensures served { seat.new.served ≡ seat.old.served }
-        ensures shows { Shows seat.old.state (Generate seat.old.state.number)
-            (replied (λ sent. Generated (sent_of sent)) result)
+        ensures shows { CallTakesTurn seat.old.state (Generate seat.old.state.number)
+            (reply_of_result (λ sent. Generated (sent_of sent)) result)
             seat.new.state }
     {
         let link = Link(seat.number());
@@ -168,8 +169,8 @@ impl<J: Journal> Served<J> {
     pub fn forget<R: Wait>(&self, rt: &R, seat: &mut Seat) -> Result<(), PeerError>
         requires { seat.old.served ≡ self.now.served }
         ensures served { seat.new.served ≡ seat.old.served }
-        ensures shows { Shows seat.old.state (Forget seat.old.state.number)
-            (replied (λ _. Forgotten) result)
+        ensures shows { CallTakesTurn seat.old.state (Forget seat.old.state.number)
+            (reply_of_result (λ _. Forgotten) result)
             seat.new.state }
     {
         let link = Link(seat.number());

@@ -3,21 +3,22 @@ pub use Rattle.std.proofs.Common.{Bool, Err, IfOk, IsOkUnless, List, None, Ok, O
 pub use Rattle.std.proofs.lemmas.List.{drop-drop, flat_map_more, get_or-replicate, get_or_past, length-drop, length-replicate, length-take, map-append, take-append-drop, take_rest}
 pub use Rattle.std.proofs.lemmas.Result.{err_from_is_err_and}
 pub use Rattle.tp_codec.proofs.Fields.{AreBytes, AreBytes-append, AreBytes-rest, reads_more}
-pub use Rattle.tp_frame.specs.Frame.{IsFrame, spelling}
-pub use Rattle.tp_frame.specs.Parts.{Gives, IsInside, Led, Opened, Stands, with_more}
-pub use Rattle.tp_frame.specs.Reading.{behind_frame, behind_read, frame_at}
+pub use Rattle.tp_frame.specs.Frame.{IsFrame, frame_spelling}
+pub use Rattle.tp_frame.specs.Parts.{GivesPart, IsInside, PartsBefore, OpenedFrame, IsPartStateOf, with_more}
+pub use Rattle.tp_frame.specs.Reading.{after_frame, after_read, frame_at}
 pub use Rattle.tp_frame.specs.declared.frame.Frame.{Frame}
 pub use Rattle.tp_frame.specs.declared.frame.Frame.TheVariants.{Sync}
 pub use Rattle.tp_frame.specs.declared.parts.Part.{Part}
 pub use Rattle.tp_frame.specs.declared.parts.Part.TheVariants.{Begin, End, Piece, Whole}
+pub use Rattle.tp_message.specs.ReaderState.{ReaderState, reads}
 pub use Rattle.tp_peer.specs.PeerStep.{Reply}
-pub use Rattle.tp_session.specs.Conversation.{AnswersFrame, EndsBy, Goes, HasCome, IsAmid, LeavesUnsent, MayBeNext, Takes, at_frame, frame_bytes, is_last}
+pub use Rattle.tp_session.specs.Conversation.{AnswersFrame, EndsBy, Goes, HasCome, IsAmid, LeavesUnsent, MayBeNext, AnswersNextFrame, at_frame, frame_bytes, is_last}
 pub use Rattle.tp_session.specs.HostCalls.{HostCall, Receive}
 pub use Rattle.tp_session.specs.Laws.{is_over}
 pub use Rattle.tp_session.specs.NetError.{refusal_of}
-pub use Rattle.tp_session.specs.PartStep.{Awaits, GoesOn, PartStep, Reads, and_given, none_of}
-pub use Rattle.tp_session.specs.SessionData.{SessionData}
-pub use Rattle.tp_session.specs.SessionStep.{Fails, Heard, Hears, SessionStep}
+pub use Rattle.tp_session.specs.PartStep.{Awaits, ContinuesReading, SessionPartStep, ReadsGiven, and_given, none_of}
+pub use Rattle.tp_session.specs.SessionState.{SessionState}
+pub use Rattle.tp_session.specs.SessionStep.{RefusesSessionStep, AnswersReceived, AnswersSync, SessionStep}
 pub use Rattle.tp_session.specs.declared.conversation.Next.{Next}
 pub use Rattle.tp_session.specs.declared.conversation.Next.TheVariants.{Waits}
 pub use Rattle.tp_session.specs.declared.error.NetError.{NetError}
@@ -25,4 +26,3 @@ pub use Rattle.tp_session.specs.declared.error.NetError.TheVariants.{Peer}
 pub use Rattle.tp_session.specs.declared.session.Phase.TheVariants.{Exchanges}
 pub use Rattle.tp_session.specs.declared.turn.Ended.{Ended}
 pub use Rattle.tp_session.specs.declared.turn.Turn.{Turn}
-pub use Rattle.tp_sync.specs.ReaderState.{ReaderState, reads}

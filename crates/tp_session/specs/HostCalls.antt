@@ -3,7 +3,7 @@ use Rattle.std.specs.Prelude.{ℕ, List}
 use Rattle.tp_session.specs.Common.{Call}
 use Rattle.tp_peer.specs.PeerStep as peer
 
--- To receive a message by its bytes, to make the next one, and to forget what the messages so far told.
+-- To receive a message by its bytes, to make the next one, and to forget what the messages so far said.
 pub data HostCall : Type 0 where
   Receive : List ℕ → HostCall
   Generate : HostCall

@@ -1,7 +1,7 @@
 pub mod Common
 pub mod Reason
 pub mod NetError
-pub mod SessionData
+pub mod SessionState
 pub mod SessionStep
 pub mod PartStep
 pub mod HostCalls

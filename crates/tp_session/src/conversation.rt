@@ -1,12 +1,12 @@
 //! A side of a session over bytes that come in any pieces.
 
-ghost use Rattle.std.specs.Prelude.{◌≡◌, ◌⊎◌, ◌++◌, ℕ, List, [], true, false, Err, Some, None, IfOk, IfErr, OnErr};
+ghost use Rattle.std.specs.Prelude.{◌≡◌, ◌⊎◌, ◌++◌, ℕ, List, [], true, false, Err, Some, None, IfOk, IfErr, OnErr, IsTrue};
 ghost use Rattle.tp_frame.specs.declared.frame.Frame.{Frame as FrameOf};
 ghost use Rattle.tp_session.specs.declared.session.Phase.TheVariants.{Over};
-ghost use Rattle.tp_session.specs.Conversation.{BreaksAt, EndsBy, Goes, HasCome, HasNoBytes, IsNoFrame, TakesNext, at_frame, frame_bytes, is_last};
+ghost use Rattle.tp_session.specs.Conversation.{RefusesFeed, EndsBy, Goes, HasCome, HasNoBytes, IsNoFrame, TakesNext, at_frame, frame_bytes, is_last};
 ghost use Rattle.tp_session.specs.Laws as law;
 ghost use Rattle.tp_session.specs.NetError.{refusal_of};
-ghost use Rattle.tp_session.specs.SessionData.{begun, first_of};
+ghost use Rattle.tp_session.specs.SessionState.{new_session, first_frame_of};
 
 use crate::error::NetError;
 use crate::host::Host;
@@ -14,7 +14,8 @@ use crate::session::{Phase, Role, Session, late};
 use crate::turn::{Ended, Turn};
 use std::alloc::Global;
 use std::marker::Model;
-use tp_frame::{Frame, History, Part, PartFramer, write_frame};
+use tp_frame::{Frame, Part, PartFramer, bytes_after_frame, write_frame};
+use tp_ghost::GhostBytes;
 use tp_opid::DocId;
 
 /// How a conversation goes on.
@@ -94,7 +95,7 @@ struct Side {
     alloc: Global,
     session: Session,
     framer: PartFramer,
-    came: History,
+    came: GhostBytes,
 }
 
 impl Side {
@@ -107,11 +108,11 @@ impl Side {
             × HasCome self.new.came.bytes self.new.session self.new.framer) }
         ensures err { HasCome self.old.came.bytes self.old.session self.old.framer
             → law.is_over self.old.session.phase ≡ false
-            → IfErr result (λ e. BreaksAt H.steps (at_frame self.old.session, H.seen host.old)
+            → IfErr result (λ e. RefusesFeed H.steps (at_frame self.old.session, H.seen host.old)
             (self.old.came.bytes ++ bytes.now) e (H.seen host.new)) }
         ensures host { H.goes_on host.old host.new }
     {
-        self.came = History::with(&self.came, bytes);
+        self.came = GhostBytes::with(&self.came, bytes);
         self.framer.feed(bytes)?;
         let Some(turn) = take_frame(self.alloc, &mut self.framer, &mut self.session, host)? else {
             return Ok(Output {
@@ -119,7 +120,7 @@ impl Side {
                 next: Next::Waits,
             });
         };
-        self.came = History::behind(&self.came);
+        self.came = bytes_after_frame(&self.came);
         let send = bytes_of(self.alloc, &turn.send)?;
         let next = if turn.ended {
             Next::Ended
@@ -133,7 +134,7 @@ impl Side {
 /// One side of a session that takes the other's bytes in whatever pieces they come.
 ///
 /// Contracts see the session as the last frame left it, and the bytes that came since. Of these a sync frame's are held
-/// as [`Session::on_part`] says, and of others 21 at most behind a call that waits.
+/// as [`Session::on_part`] says, and of others 21 at most after a call that waits.
 pub struct Conversation {
     side: Side,
 }
@@ -146,10 +147,10 @@ impl Drop for Conversation {
 
 impl Model for Conversation {
     ghost use Rattle.std.specs.Prelude.{◌≡◌, false};
-    ghost use Rattle.tp_session.specs.Conversation.{ConversationData, HasCome, at_frame};
+    ghost use Rattle.tp_session.specs.Conversation.{ConversationState, HasCome, at_frame};
     ghost use Rattle.tp_session.specs.Laws as law;
 
-    ghost Value = { ConversationData };
+    ghost Value = { ConversationState };
 
     ghost view = { λ c. record { session = at_frame c.side.session; bytes = c.side.came.bytes } };
 
@@ -160,14 +161,14 @@ impl Model for Conversation {
 impl Conversation {
     /// The side with the role of a session about the document, at its begin. No memory.
     pub fn new(alloc: Global, role: Role, id: DocId) -> Conversation
-        ensures { result ≡ record { session = begun role id; bytes = [] } }
+        ensures { result ≡ record { session = new_session role id; bytes = [] } }
     {
         Conversation {
             side: Side {
                 alloc,
                 session: Session::new(role, id),
                 framer: PartFramer::new(alloc),
-                came: History::new(),
+                came: GhostBytes::none(),
             },
         }
     }
@@ -175,9 +176,9 @@ impl Conversation {
     /// The bytes with which the side begins: those of the client's hello. A server begins with none. `OutOfMemory`.
     pub fn first(&self) -> Result<Vec<u8>, NetError>
         ensures ok { IfOk result (λ bytes. bytes.items
-            ≡ frame_bytes (first_of self.now.session.role self.now.session.id)) }
+            ≡ frame_bytes (first_frame_of self.now.session.role self.now.session.id)) }
         ensures err { IfErr result (λ e. HasNoBytes e × (f : FrameOf)
-            × (first_of self.now.session.role self.now.session.id ≡ Some f)) }
+            × (first_frame_of self.now.session.role self.now.session.id ≡ Some f)) }
     {
         bytes_of(self.side.alloc, &self.side.session.first())
     }
@@ -190,14 +191,14 @@ impl Conversation {
     }
 
     /// How many changes were applied here. Past 2^64 - 1 the number stays.
-    pub fn applied(&self) -> u64
+    pub fn applied_count(&self) -> u64
         ensures { result ≡ self.now.session.applied }
     {
-        self.side.session.applied()
+        self.side.session.applied_count()
     }
 
     /// Takes the next bytes of the other side, which may be none, and answers the next frame if it is whole, as
-    /// [`Session::on_frame`] does. What came behind it is kept for the next call.
+    /// [`Session::on_frame`] does. What came after it is kept for the next call.
     ///
     /// Each error ends the session, and has the refusal frame that is due: `Frame` where what came is no frame, or a
     /// message of the host is too long for one; `OutOfMemory`; and else what `on_frame` answers, at the bytes that show
@@ -209,11 +210,11 @@ impl Conversation {
             (self.old.bytes ++ bytes.now) output.next output.send.items
             (self.new.session, H.seen host.new) self.new.bytes) }
         ensures err { law.is_over self.old.session.phase ≡ false → IfErr result
-            (λ ended. BreaksAt H.steps (self.old.session, H.seen host.old)
+            (λ ended. RefusesFeed H.steps (self.old.session, H.seen host.old)
             (self.old.bytes ++ bytes.now) ended.error (H.seen host.new)
             × (ended.send ≡ refusal_of ended.error)) }
         ensures over { OnErr result (self.new.session.phase ≡ Over) }
-        ensures late { law.is_over self.old.session.phase ≡ true
+        ensures late { IsTrue (law.is_over self.old.session.phase)
             → (result ≡ Err (record { error = NetError.Unexpected; send = None }))
             × (self.new ≡ self.old) × (H.seen host.new ≡ H.seen host.old) }
         ensures host { H.goes_on host.old host.new }

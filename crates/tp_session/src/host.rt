@@ -1,9 +1,9 @@
 //! What a session is held over.
 
-ghost use Rattle.tp_peer.specs.PeerStep.{Reply, Received as Reported, Generated, Forgotten, replied};
+ghost use Rattle.tp_peer.specs.PeerStep.{Reply, Received as Reported, Generated, Forgotten, reply_of_result};
 ghost use Rattle.tp_peer.specs.Sent.{sent_of};
 ghost use Rattle.tp_peer.specs.Taking.{report_of};
-ghost use Rattle.tp_sync.specs.Spelling.{message_spelling};
+ghost use Rattle.tp_message.specs.Spelling.{message_spelling};
 ghost use Rattle.tp_session.specs.HostCalls.{HostCall, Receive, Generate, Forget};
 
 use tp_peer::{Outgoing, PeerError, Received};
@@ -28,30 +28,30 @@ pub trait Host {
     /// Receives a message by its bytes.
     fn receive(&mut self, bytes: &[u8]) -> Result<Received, PeerError>
         ensures reply { steps (seen self.old) (Receive bytes.now)
-            (replied (λ r. Reported (report_of r.applied) r.same_heads) result) (seen self.new) }
+            (reply_of_result (λ r. Reported (report_of r.applied) r.same_heads) result) (seen self.new) }
         ensures host { goes_on self.old self.new };
 
     /// Receives a message that was decoded, as [`receive`](Host::receive) receives its bytes.
     fn receive_message(&mut self, message: Message) -> Result<Received, PeerError>
         ensures reply { steps (seen self.old) (Receive (message_spelling message))
-            (replied (λ r. Reported (report_of r.applied) r.same_heads) result) (seen self.new) }
+            (reply_of_result (λ r. Reported (report_of r.applied) r.same_heads) result) (seen self.new) }
         ensures host { goes_on self.old self.new };
 
     /// The next message, or `None` where there is nothing to say.
     fn generate(&mut self) -> Result<Option<Outgoing>, PeerError>
         ensures reply { steps (seen self.old) Generate
-            (replied (λ sent. Generated (sent_of sent)) result) (seen self.new) }
+            (reply_of_result (λ sent. Generated (sent_of sent)) result) (seen self.new) }
         ensures host { goes_on self.old self.new };
 
-    /// Forgets what the messages so far told.
+    /// Forgets what the messages so far said.
     fn forget(&mut self) -> Result<(), PeerError>
         ensures reply { steps (seen self.old) Forget
-            (replied (λ _. Forgotten) result) (seen self.new) }
+            (reply_of_result (λ _. Forgotten) result) (seen self.new) }
         ensures host { goes_on self.old self.new };
 
     /// It is, where there was no call.
     ghost stays: { (h : Self) → goes_on h h };
 
-    /// And over calls behind calls.
+    /// And over calls after calls.
     ghost joins: { (a b c : Self) → goes_on a b → goes_on b c → goes_on a c };
 }

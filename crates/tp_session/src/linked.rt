@@ -30,9 +30,9 @@ impl<'a, J: Journal> LinkedPeer<'a, J> {
 impl<'a, J: Journal> Host for LinkedPeer<'a, J> {
     ghost use Rattle.std.specs.Prelude.{ℕ};
     ghost use Rattle.std.proofs.Common.{refl, ◌∙◌};
-    ghost use Rattle.tp_peer.specs.PeerData.{PeerData};
+    ghost use Rattle.tp_peer.specs.PeerState.{PeerState};
 
-    ghost Seen = { ℕ × PeerData };
+    ghost Seen = { ℕ × PeerState };
 
     ghost seen = { λ h. (h.link.0, h.peer.now) };
 

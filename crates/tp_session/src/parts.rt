@@ -1,14 +1,15 @@
 //! A frame that comes in parts.
 
 ghost use Rattle.std.specs.Prelude.{◌≡◌, ◌≤◌, ◌++◌, length, Ok, Option, Result};
-ghost use Rattle.tp_frame.specs.Parts.{Opened};
-ghost use Rattle.tp_sync.specs.Gives.{Gives};
-ghost use Rattle.tp_sync.specs.declared.error.SyncError.{SyncError as Refusal};
-ghost use Rattle.tp_sync.specs.Reading.{message_at};
-ghost use Rattle.tp_sync.specs.ReaderState.{ReaderState};
-ghost use Rattle.tp_session.specs.PartStep.{GoesOn, IsAt, IsReading, PartStep, Reads, and_given, none_of};
-ghost use Rattle.tp_session.specs.SessionData.{SessionData};
-ghost use Rattle.tp_session.specs.SessionStep.{Hears};
+ghost use Rattle.tp_frame.specs.Parts.{OpenedFrame};
+ghost use Rattle.tp_codec.specs.Gives.{Gives};
+ghost use Rattle.tp_message.specs.declared.error.SyncError.{SyncError as Refusal};
+ghost use Rattle.tp_message.specs.declared.error.SyncError.TheVariants.{OutOfMemory};
+ghost use Rattle.tp_message.specs.Reading.{message_at};
+ghost use Rattle.tp_message.specs.ReaderState.{ReaderState};
+ghost use Rattle.tp_session.specs.PartStep.{ContinuesReading, IsAfterFrame, IsReading, SessionPartStep, ReadsGiven, and_given, none_of};
+ghost use Rattle.tp_session.specs.SessionState.{SessionState};
+ghost use Rattle.tp_session.specs.SessionStep.{AnswersSync};
 
 use crate::error::NetError;
 use crate::host::Host;
@@ -20,19 +21,19 @@ use tp_frame::Part;
 use tp_peer::PeerError;
 use tp_sync::{Message, MessageReader, SyncError};
 
-// A reader of a message that has so many bytes.
+// A reader of a message of a given length.
 #[tactic(auto, using(crate::proofs::ReadingLaws::reads_none))]
 fn reader_of(alloc: Global, len: u32) -> Result<MessageReader, SyncError>
-    ensures { Reads (none_of len) result }
+    ensures { ReadsGiven (none_of len) result }
 {
     MessageReader::new(alloc, len)
 }
 
 // The reader, once it took all of the piece.
 fn read_on(reader: MessageReader, piece: &[u8]) -> Result<MessageReader, SyncError>
-    ensures { (frame : Opened) → Reads frame (Ok reader)
+    ensures { (frame : OpenedFrame) → ReadsGiven frame (Ok reader)
         → length (frame.given ++ piece.now) ≤ frame.len
-        → Reads (and_given frame piece.now) result }
+        → ReadsGiven (and_given frame piece.now) result }
 {
     let mut taking = reader;
     let mut ahead = Ahead::none();
@@ -40,7 +41,7 @@ fn read_on(reader: MessageReader, piece: &[u8]) -> Result<MessageReader, SyncErr
     'fields: while at < piece.len() && !taking.whole() {
         let rest = &piece[at..];
         if ahead.is_used_up() {
-            if let Some(next) = taking.expected(rest) {
+            if let Some(next) = taking.next_four(rest) {
                 ahead = next;
             }
         }
@@ -51,8 +52,8 @@ fn read_on(reader: MessageReader, piece: &[u8]) -> Result<MessageReader, SyncErr
 
 // The message whose bytes the reader took. One that isn't whole was refused, and is refused so again, or has no end yet.
 fn message_in(mut reader: MessageReader) -> Result<Message, SyncError>
-    ensures { (frame : Opened) → Reads frame (Ok reader) → length frame.given ≡ frame.len
-        → Gives (λ m. m) result (message_at frame.given) }
+    ensures { (frame : OpenedFrame) → ReadsGiven frame (Ok reader) → length frame.given ≡ frame.len
+        → Gives OutOfMemory (λ m. m) result (message_at frame.given) }
 {
     if reader.whole() {
         return Ok(reader.finish());
@@ -64,7 +65,7 @@ fn message_in(mut reader: MessageReader) -> Result<Message, SyncError>
 impl Session {
     // Goes on reading, or ends where what came is refused.
     fn go_on(&mut self, read: Result<MessageReader, SyncError>) -> Result<Turn, Ended>
-        ensures { GoesOn self.old read result self.new }
+        ensures { ContinuesReading self.old read result self.new }
     {
         match read {
             Ok(reader) => {
@@ -80,10 +81,10 @@ impl Session {
 
     // The next bytes of a sync frame come.
     fn on_piece(&mut self, piece: &[u8]) -> Result<Turn, Ended>
-        ensures { (s : SessionData) (frame : Opened) → IsReading s frame self.old
+        ensures { (s : SessionState) (frame : OpenedFrame) → IsReading s frame self.old
             → length (frame.given ++ piece.now) ≤ frame.len
-            → (read : Result ReaderState Refusal) × Reads (and_given frame piece.now) read
-            × GoesOn s read result self.new }
+            → (read : Result ReaderState Refusal) × ReadsGiven (and_given frame piece.now) read
+            × ContinuesReading s read result self.new }
     {
         match self.reading.take() {
             Some(reader) => self.go_on(read_on(reader, piece)),
@@ -93,9 +94,9 @@ impl Session {
 
     // A sync frame ends.
     fn on_end<H: Host>(&mut self, host: &mut H) -> Result<Turn, Ended>
-        ensures step { (s : SessionData) (frame : Opened) → IsReading s frame self.old
+        ensures step { (s : SessionState) (frame : OpenedFrame) → IsReading s frame self.old
             → length frame.given ≡ frame.len
-            → Hears H.steps frame.given (s, H.seen host.old) result (self.new, H.seen host.new) }
+            → AnswersSync H.steps frame.given (s, H.seen host.old) result (self.new, H.seen host.new) }
         ensures host { H.goes_on host.old host.new }
     {
         match self.reading.take() {
@@ -128,8 +129,8 @@ impl Session {
         part: Part,
         host: &mut H,
     ) -> Result<Turn, Ended>
-        ensures step { (s : SessionData) (opened : Option Opened) → IsAt s opened self.old
-            → PartStep H.steps (s, H.seen host.old) opened part result (self.new, H.seen host.new) }
+        ensures step { (s : SessionState) (opened : Option OpenedFrame) → IsAfterFrame s opened self.old
+            → SessionPartStep H.steps (s, H.seen host.old) opened part result (self.new, H.seen host.new) }
         ensures host { H.goes_on host.old host.new }
     {
         match (self.phase, part) {

@@ -1,11 +1,11 @@
 //! The session: what a side answers to each frame.
 
 ghost use Rattle.std.specs.Prelude.{◌≡◌, ◌≤◌, length, None, MatchOption};
-ghost use Rattle.tp_change.specs.declared.limits.TheConstants.{MAX_BYTES};
-ghost use Rattle.tp_peer.specs.PeerStep.{Received as Reported, replied};
+ghost use Rattle.tp_layout.specs.declared.limits.TheConstants.{MAX_BYTES};
+ghost use Rattle.tp_peer.specs.PeerStep.{Received as Reported, reply_of_result};
 ghost use Rattle.tp_peer.specs.Taking.{report_of};
-ghost use Rattle.tp_session.specs.SessionData.{begun, first_of, counting, greeting};
-ghost use Rattle.tp_session.specs.SessionStep.{SessionStep, Says, Closes, Fails, Tells, Sends, Greets, Heard, Hears};
+ghost use Rattle.tp_session.specs.SessionState.{new_session, first_frame_of, counting, greeting};
+ghost use Rattle.tp_session.specs.SessionStep.{SessionStep, SendsFrame, EndsSession, RefusesSessionStep, AsksForMessage, SendsGenerated, Greets, AnswersReceived, AnswersSync};
 
 use crate::error::NetError;
 use crate::host::Host;
@@ -46,7 +46,7 @@ pub enum Phase {
 ///
 /// Contracts see its role, its document's identifier, how far it is, how many changes were applied here and how far the
 /// message of a sync frame was read. [`on_frame`](Session::on_frame) is a `SessionStep`, and
-/// [`on_part`](Session::on_part) is a `PartStep`.
+/// [`on_part`](Session::on_part) is a `SessionPartStep`.
 #[derive(Drop)]
 pub struct Session {
     role: Role,
@@ -57,9 +57,9 @@ pub struct Session {
 }
 
 impl Model for Session {
-    ghost use Rattle.tp_session.specs.SessionData.{SessionData};
+    ghost use Rattle.tp_session.specs.SessionState.{SessionState};
 
-    ghost Value = { SessionData };
+    ghost Value = { SessionState };
 
     ghost view = { λ s. record { role = s.role; id = s.id; phase = s.phase; applied = s.applied; reading = s.reading } };
 }
@@ -67,7 +67,7 @@ impl Model for Session {
 impl Session {
     /// The side with the role of a session about the document, at its begin. No memory.
     pub fn new(role: Role, id: DocId) -> Session
-        ensures { result ≡ begun role id }
+        ensures { result ≡ new_session role id }
     {
         Session {
             role,
@@ -80,7 +80,7 @@ impl Session {
 
     /// The frame with which the side begins: the client's hello. A server begins with none.
     pub fn first(&self) -> Option<Frame>
-        ensures { result ≡ first_of self.now.role self.now.id }
+        ensures { result ≡ first_frame_of self.now.role self.now.id }
     {
         match self.role {
             Role::Client => Some(self.hello()),
@@ -106,7 +106,7 @@ impl Session {
     }
 
     /// How many changes were applied here in this session. Past 2^64 - 1 the number stays.
-    pub fn applied(&self) -> u64
+    pub fn applied_count(&self) -> u64
         ensures { result ≡ self.now.applied }
     {
         self.applied
@@ -126,7 +126,7 @@ impl Session {
 
     // Goes on, and sends a frame.
     fn say(&mut self, frame: Frame, phase: Phase) -> Result<Turn, Ended>
-        ensures { Says self.old frame phase result self.new }
+        ensures { SendsFrame self.old frame phase result self.new }
     {
         self.phase = phase;
         Ok(Turn {
@@ -137,7 +137,7 @@ impl Session {
 
     // Ends well, and sends what it still has to.
     fn close(&mut self, send: Option<Frame>) -> Result<Turn, Ended>
-        ensures { Closes self.old send result self.new }
+        ensures { EndsSession self.old send result self.new }
     {
         self.phase = Phase::Over;
         Ok(Turn { send, ended: true })
@@ -145,7 +145,7 @@ impl Session {
 
     // Ends for an error, with the refusal that is due.
     pub(crate) fn fail(&mut self, error: NetError) -> Result<Turn, Ended>
-        ensures { Fails self.old error result self.new }
+        ensures { RefusesSessionStep self.old error result self.new }
     {
         self.phase = Phase::Over;
         Err(Ended::new(error))
@@ -161,7 +161,7 @@ impl Session {
 
     // Sends a message that was made, or done in its place where it would be refused as the one before.
     fn send(&mut self, sent: Outgoing, stale: bool) -> Result<Turn, Ended>
-        ensures { Sends self.old stale (sent.bytes.items, sent.again) result self.new }
+        ensures { SendsGenerated self.old stale (sent.bytes.items, sent.again) result self.new }
     {
         if stale && sent.again {
             return self.say(Frame::Done, Phase::SaidDone);
@@ -174,7 +174,7 @@ impl Session {
 
     // Sends the host's next message, or done where it has none.
     fn tell<H: Host>(&mut self, stale: bool, host: &mut H) -> Result<Turn, Ended>
-        ensures step { Tells H.steps stale (self.old, H.seen host.old)
+        ensures step { AsksForMessage H.steps stale (self.old, H.seen host.old)
             result (self.new, H.seen host.new) }
         ensures host { H.goes_on host.old host.new }
     {
@@ -209,8 +209,8 @@ impl Session {
         received: Result<Received, PeerError>,
         host: &mut H,
     ) -> Result<Turn, Ended>
-        ensures step { Heard H.steps
-            (replied (λ r. Reported (report_of r.applied) r.same_heads) received)
+        ensures step { AnswersReceived H.steps
+            (reply_of_result (λ r. Reported (report_of r.applied) r.same_heads) received)
             (self.old, H.seen host.old) result (self.new, H.seen host.new) }
         ensures host { H.goes_on host.old host.new }
     {
@@ -226,7 +226,7 @@ impl Session {
 
     // A message comes.
     fn hear<H: Host>(&mut self, bytes: &[u8], host: &mut H) -> Result<Turn, Ended>
-        ensures step { Hears H.steps bytes.now (self.old, H.seen host.old)
+        ensures step { AnswersSync H.steps bytes.now (self.old, H.seen host.old)
             result (self.new, H.seen host.new) }
         ensures host { H.goes_on host.old host.new }
     {

@@ -1,14 +1,15 @@
--- What is told of a text.
+-- What is printed of a text.
 use Rattle.std.proofs.Common.{◌≡◌, ℕ, false, List, ◌++◌, codes, Result, Ok, Err, sym, ap, ◌∙◌}
 use Rattle.std.specs.Prelude.{IfOk, encode_utf8_all, if◌then◌else◌}
 use Rattle.std.specs.Str.{IsUtf8, chars}
 use Rattle.std.proofs.lemmas.Str.{encodes-chars}
 use Rattle.tp_simulate.specs.declared.asked.Asked.{Asked}
-use Rattle.tp_simulate.specs.Telling.{is_mark, line, told_text}
+use Rattle.tp_simulate.specs.Telling.{is_mark, reported_text}
+use Rattle.tp_list.specs.Bytes.{line}
 
 -- the line of a text that was read for no mark
-pub told_shown : (a : Asked) (text : List ℕ) → is_mark a ≡ false → IsUtf8 text → line (codes "text " ++ text) ≡ told_text a (chars text)
-told_shown a text none utf8 =
+pub reported_shown : (a : Asked) (text : List ℕ) → is_mark a ≡ false → IsUtf8 text → line (codes "text " ++ text) ≡ reported_text a (chars text)
+reported_shown a text none utf8 =
     ap (λ (t : List ℕ). line (codes "text " ++ t)) (sym (encodes-chars text utf8))
     ∙ ap (λ b. if b then line (codes "marked") else line (codes "text " ++ encode_utf8_all (chars text))) (sym none)
 

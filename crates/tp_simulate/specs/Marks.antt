@@ -4,7 +4,7 @@ use Rattle.std.specs.List.{slice_get}
 use Rattle.std.specs.Str.{chars}
 use Rattle.tp_opid.specs.declared.hash.Hash.{Hash}
 use Rattle.tp_peer.specs.PeerStep.{Text}
-use Rattle.tp_headline.specs.Reply.{Reply, Answered}
+use Rattle.tp_headline.specs.Reply.{EventReply, Answered}
 use Rattle.tp_headline.specs.Headline.{ReadRecord}
 use Rattle.tp_headline.specs.World.{World}
 use Rattle.tp_simulate.specs.declared.mark.Mark.{Mark}
@@ -29,10 +29,10 @@ abbrev pub mark_of : List ℕ → World → Mark
 mark_of name w = record { name = chars name; heads = last_heads w.reads }
 
 -- a text was read
-abbrev pub is_text : Reply → Bool
+abbrev pub is_text : EventReply → Bool
 is_text (Answered (Text text)) = true
 is_text _ = false
 
 -- the marks after a read for a mark was replied to, where the world is w then: one more, if a text was read
-abbrev pub marks_named : List Mark → List ℕ → Reply → World → List Mark
+abbrev pub marks_named : List Mark → List ℕ → EventReply → World → List Mark
 marks_named marks name reply w = if is_text reply then marks ++ mark_of name w ∷ [] else marks

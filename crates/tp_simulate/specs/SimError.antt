@@ -9,5 +9,5 @@ code_of Io = 2
 code_of OutOfMemory = 3
 
 -- a growth was refused, or the reader or the writer failed
-abbrev pub IsOutside : SimError → Type 0
-IsOutside e = (e ≡ OutOfMemory) ⊎ (e ≡ Io)
+abbrev pub IsOutsideError : SimError → Type 0
+IsOutsideError e = (e ≡ OutOfMemory) ⊎ (e ≡ Io)

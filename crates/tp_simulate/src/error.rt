@@ -1,7 +1,7 @@
 //! Why a script wasn't run to its end.
 
 ghost use Rattle.std.specs.Prelude.{◌≡◌};
-ghost use Rattle.tp_simulate.specs.SimError.{IsOutside, code_of};
+ghost use Rattle.tp_simulate.specs.SimError.{IsOutsideError, code_of};
 ghost use Rattle.tp_simulate.specs.declared.error.SimError.TheVariants.{OutOfMemory};
 
 use std::alloc::{AllocError, AllocFailed};
@@ -54,7 +54,7 @@ impl<T: Drop> From<AllocFailed<T>> for SimError {
 
 /// Which refusal the fault of a reader or a writer is.
 pub(crate) fn refusal_of_device(error: io::Error) -> SimError
-    ensures { IsOutside result }
+    ensures { IsOutsideError result }
 {
     match error.kind() {
         ErrorKind::OutOfMemory => SimError::OutOfMemory,

@@ -61,7 +61,7 @@ fn call<'a>(words: &[&'a str]) -> Option<(usize, AskedCall<'a>)> {
     }
 }
 
-// The same, of a call that may append to the journal.
+// The peer and the call of a line, where the call may append to the journal.
 fn appending<'a>(words: &[&'a str]) -> Option<(usize, AskedCall<'a>)> {
     match words {
         ["edit", peer, at, del] => Some((count(peer)?, edit(at, del, "")?)),

@@ -5,9 +5,9 @@ ghost use Rattle.std.specs.Option.{option_map};
 ghost use Rattle.tp_peer.specs.PeerStep.{Read, ReadAt};
 ghost use Rattle.tp_headline.specs.Call as events;
 ghost use Rattle.tp_headline.specs.Happening.{Next};
-ghost use Rattle.tp_world.specs.Told.{call_of, reply_of};
+ghost use Rattle.tp_event.specs.Views.{event_call_of, event_reply_of};
 ghost use Rattle.tp_simulate.specs.Marks.{is_text, last_heads, latest, mark_of, marks_named};
-ghost use Rattle.tp_simulate.specs.Playing.{Carries, Meets, call_in, event_in, event_with};
+ghost use Rattle.tp_simulate.specs.Playing.{Carries, NextIfEvent, call_with_marks, event_in, event_with};
 
 use crate::asked::{Asked, AskedCall};
 use crate::mark::Mark;
@@ -45,7 +45,7 @@ fn copied_heads(alloc: Global, world: &World) -> Result<Vec<Hash>, AllocError>
 }
 
 fn is_text(reply: &Reply) -> bool
-    ensures { result ≡ is_text (reply_of reply.now) }
+    ensures { result ≡ is_text (event_reply_of reply.now) }
 {
     match reply {
         Reply::Answered(Answer::Alone(PeerReply::Text(_))) => true,
@@ -72,8 +72,8 @@ impl Stage {
 
 // A peer makes a call, or crashes during it.
 fn step(stage: &mut Stage, peer: usize, crash: Option<(u64, Actor)>, call: Call) -> Reply
-    ensures next { Next stage.old.world (event_with peer crash (call_of call.entry))
-        (reply_of result) stage.new.world }
+    ensures next { Next stage.old.world (event_with peer crash (event_call_of call.entry))
+        (event_reply_of result) stage.new.world }
     ensures marks { stage.new.marks ≡ stage.old.marks }
 {
     match crash {
@@ -90,10 +90,10 @@ fn step(stage: &mut Stage, peer: usize, crash: Option<(u64, Actor)>, call: Call)
 // A peer reads its text at the heads that have the name, or crashes during that; `None` where none have it.
 fn read_at(stage: &mut Stage, peer: usize, crash: Option<(u64, Actor)>, name: &str) -> Option<Reply>
     ensures next { MatchOption result (latest name.now None stage.old.marks.items ≡ None)
-        (λ reply. Meets stage.old.world
+        (λ reply. NextIfEvent stage.old.world
         (option_map (λ hashes. event_with peer crash (events.Alone (ReadAt hashes)))
         (latest name.now None stage.old.marks.items))
-        (reply_of reply) stage.new.world) }
+        (event_reply_of reply) stage.new.world) }
     ensures marks { stage.new.marks ≡ stage.old.marks }
 {
     let hashes = match heads_named(&stage.marks, name) {
@@ -115,16 +115,16 @@ fn read_at(stage: &mut Stage, peer: usize, crash: Option<(u64, Actor)>, name: &s
 }
 
 // A peer makes the call that is asked for, or crashes during it. `None` where it names a mark that isn't set.
-fn made(
+fn make_call(
     stage: &mut Stage,
     peer: usize,
     crash: Option<(u64, Actor)>,
     call: &AskedCall,
 ) -> Option<Reply>
-    ensures next { MatchOption result (call_in stage.old.marks.items call.now ≡ None)
-        (λ reply. Meets stage.old.world
-        (option_map (λ c. event_with peer crash c) (call_in stage.old.marks.items call.now))
-        (reply_of reply) stage.new.world) }
+    ensures next { MatchOption result (call_with_marks stage.old.marks.items call.now ≡ None)
+        (λ reply. NextIfEvent stage.old.world
+        (option_map (λ c. event_with peer crash c) (call_with_marks stage.old.marks.items call.now))
+        (event_reply_of reply) stage.new.world) }
     ensures marks { stage.new.marks ≡ stage.old.marks }
 {
     match call {
@@ -167,9 +167,9 @@ fn made(
 // Names the heads of a peer, if its text can be read.
 fn mark(stage: &mut Stage, name: &str, peer: usize) -> Result<Reply, AllocError>
     ensures next { IfOk result (λ reply. Next stage.old.world
-        (event_with peer None (events.Alone Read)) (reply_of reply) stage.new.world) }
+        (event_with peer None (events.Alone Read)) (event_reply_of reply) stage.new.world) }
     ensures marks { IfOk result (λ reply. stage.new.marks.items
-        ≡ marks_named stage.old.marks.items name.now (reply_of reply) stage.new.world) }
+        ≡ marks_named stage.old.marks.items name.now (event_reply_of reply) stage.new.world) }
 {
     let reply = step(stage, peer, None, Call::Alone(PeerCall::Read));
     if is_text(&reply) {
@@ -180,10 +180,10 @@ fn mark(stage: &mut Stage, name: &str, peer: usize) -> Result<Reply, AllocError>
 
 /// Carries out what a line asks for. `None` where it names a mark that isn't set; then nothing happens.
 pub(crate) fn carry_out(stage: &mut Stage, asked: &Asked) -> Result<Option<Reply>, AllocError>
-    ensures unknown { IfOk result (λ told. MatchOption told
+    ensures unknown { IfOk result (λ reported. MatchOption reported
         (event_in stage.old.marks.items asked.now ≡ None) (λ _. Unit {0})) }
-    ensures carried { IfOk result (λ told. IfSome told (λ reply.
-        Carries stage.old.world stage.old.marks.items asked.now (reply_of reply)
+    ensures carried { IfOk result (λ reported. IfSome reported (λ reply.
+        Carries stage.old.world stage.old.marks.items asked.now (event_reply_of reply)
         stage.new.world stage.new.marks.items)) }
 {
     match asked {
@@ -194,7 +194,7 @@ pub(crate) fn carry_out(stage: &mut Stage, asked: &Asked) -> Result<Option<Reply
                 actor: *actor,
             }),
         )),
-        Asked::Call { peer, call, crash } => Ok(made(stage, *peer, *crash, call)),
+        Asked::Call { peer, call, crash } => Ok(make_call(stage, *peer, *crash, call)),
         Asked::Crash { peer, actor } => Ok(Some(
             stage.world.step(Event::Crash {
                 peer: *peer,

@@ -1,26 +1,26 @@
 //! A script run to its end.
 
-ghost use Rattle.std.specs.Prelude.{◌≡◌, ◌⊎◌, ℕ, ◌+◌, List, true, false, IfOk, IfErr, OnOk};
+ghost use Rattle.std.specs.Prelude.{◌≡◌, ◌⊎◌, ℕ, List, true, false, IfOk, IfErr, OnOk, IsTrue};
 ghost use Rattle.std.specs.Io.KnownBytes.{Appends, Keeps};
 ghost use Rattle.std.specs.String.{string_bytes};
 ghost use Rattle.tp_opid.specs.declared.op_id.OpId.{OpId};
-ghost use Rattle.tp_headline.specs.Reply.{Reply as ReplyData};
+ghost use Rattle.tp_headline.specs.Reply.{EventReply as ReplyData};
 ghost use Rattle.tp_headline.specs.World.{World as WorldData};
 ghost use Rattle.tp_textpeer.specs.Output.{AppendsPart};
 ghost use Rattle.tp_world.specs.Order.{IsOneList};
 ghost use Rattle.tp_simulate.specs.declared.asked.Asked.{Asked as AskedData};
 ghost use Rattle.tp_simulate.specs.declared.mark.Mark.{Mark as MarkData};
 ghost use Rattle.tp_simulate.specs.declared.error.SimError.TheVariants as refusal;
-ghost use Rattle.tp_simulate.specs.SimError.{IsOutside};
+ghost use Rattle.tp_simulate.specs.SimError.{IsOutsideError};
 ghost use Rattle.tp_simulate.specs.Playing.{Carries};
-ghost use Rattle.tp_simulate.specs.Script.{Prints, PrintsPart, StopsAt};
-ghost use Rattle.tp_simulate.specs.Telling.{order_line as order_line_of, told as told_of};
+ghost use Rattle.tp_simulate.specs.Script.{Prints, PrintsPart, StopsAtLine};
+ghost use Rattle.tp_simulate.specs.Telling.{order_line as order_line_of, line_of_reply as marked_of};
 
 use crate::asked::Asked;
 use crate::error::{SimError, refusal_of_device};
 use crate::parsing::asked_by;
 use crate::playing::{Stage, carry_out};
-use crate::telling::told;
+use crate::telling::line_of_reply;
 use std::alloc::{AllocError, Global};
 use std::io::{BufRead, Write};
 use tp_headline::WorldError;
@@ -50,18 +50,18 @@ fn is_out_of_memory(reply: &Reply) -> bool {
 }
 
 // Carries out what the line with the number asks for, and gives what is printed of it.
-fn carried(stage: &mut Stage, asked: &Asked, number: u64) -> Result<String, SimError>
+fn play_asked(stage: &mut Stage, asked: &Asked, number: u64) -> Result<String, SimError>
     ensures ok { IfOk result (λ printed. (reply : ReplyData)
         × Carries stage.old.world stage.old.marks.items asked.now reply
-        stage.new.world stage.new.marks.items × (string_bytes printed ≡ told_of asked.now reply)) }
-    ensures err { IfErr result (λ e. IsOutside e ⊎ (e ≡ refusal.Line number)) }
+        stage.new.world stage.new.marks.items × (string_bytes printed ≡ marked_of asked.now reply)) }
+    ensures err { IfErr result (λ e. IsOutsideError e ⊎ (e ≡ refusal.Line number)) }
 {
     match carry_out(stage, asked) {
         Ok(Some(reply)) => {
             if is_out_of_memory(&reply) {
                 return Err(SimError::OutOfMemory);
             }
-            match told(stage.alloc, asked, &reply) {
+            match line_of_reply(stage.alloc, asked, &reply) {
                 Ok(printed) => Ok(printed),
                 Err(_) => Err(SimError::OutOfMemory),
             }
@@ -72,18 +72,18 @@ fn carried(stage: &mut Stage, asked: &Asked, number: u64) -> Result<String, SimE
 }
 
 // Carries out the line with the number, and gives what is printed of it.
-fn played(stage: &mut Stage, line: &[u8], number: u64) -> Result<String, SimError>
+fn play_line(stage: &mut Stage, line: &[u8], number: u64) -> Result<String, SimError>
     ensures ok { IfOk result (λ printed. (a : AskedData) × (reply : ReplyData)
         × Carries stage.old.world stage.old.marks.items a reply
-        stage.new.world stage.new.marks.items × (string_bytes printed ≡ told_of a reply)) }
-    ensures err { IfErr result (λ e. IsOutside e ⊎ (e ≡ refusal.Line number)) }
+        stage.new.world stage.new.marks.items × (string_bytes printed ≡ marked_of a reply)) }
+    ensures err { IfErr result (λ e. IsOutsideError e ⊎ (e ≡ refusal.Line number)) }
 {
     let text = match str::from_utf8(line) {
         Ok(text) => text,
         Err(_) => return Err(SimError::Line(number)),
     };
     match asked_by(stage.alloc, text) {
-        Ok(Some(asked)) => carried(stage, &asked, number),
+        Ok(Some(asked)) => play_asked(stage, &asked, number),
         Ok(None) => Err(SimError::Line(number)),
         Err(_) => Err(SimError::OutOfMemory),
     }
@@ -91,7 +91,7 @@ fn played(stage: &mut Stage, line: &[u8], number: u64) -> Result<String, SimErro
 
 // Replaces what the buffer holds by the next line, without its newline; answers whether there was one.
 fn next_line<R: BufRead>(reader: &mut R, line: &mut Vec<u8>) -> Result<bool, SimError>
-    ensures { IfErr result IsOutside }
+    ensures { IfErr result IsOutsideError }
 {
     line.clear();
     match reader.read_until(b'\n', line) {
@@ -110,7 +110,7 @@ fn put<W: Write>(writer: &mut W, printed: &str) -> Result<(), SimError>
     ensures whole { OnOk result
         (Appends (W.contents writer.old) (W.contents writer.new) printed.now) }
     ensures part { AppendsPart (W.contents writer.old) (W.contents writer.new) printed.now }
-    ensures err { IfErr result IsOutside }
+    ensures err { IfErr result IsOutsideError }
 {
     match write_out(writer, printed.as_bytes()) {
         Ok(()) => Ok(()),
@@ -126,25 +126,25 @@ fn step<R: BufRead, W: Write>(
     writer: &mut W,
     number: u64,
 ) -> Result<bool, SimError>
-    ensures more { IfOk result (λ more. more ≡ true → (a : AskedData) × (reply : ReplyData)
+    ensures more { IfOk result (λ more. IsTrue more → (a : AskedData) × (reply : ReplyData)
         × Carries stage.old.world stage.old.marks.items a reply
         stage.new.world stage.new.marks.items
-        × Appends (W.contents writer.old) (W.contents writer.new) (told_of a reply)) }
+        × Appends (W.contents writer.old) (W.contents writer.new) (marked_of a reply)) }
     ensures ended { IfOk result (λ more. more ≡ false → (stage.new ≡ stage.old)
         × Keeps (W.contents writer.old) (W.contents writer.new)) }
     // A refusal leaves what was written as it was, but for a beginning of what is printed of the line.
-    ensures err { IfErr result (λ e. ((IsOutside e ⊎ (e ≡ refusal.Line number))
+    ensures err { IfErr result (λ e. ((IsOutsideError e ⊎ (e ≡ refusal.Line number))
         × Keeps (W.contents writer.old) (W.contents writer.new))
-        ⊎ (IsOutside e × ((a : AskedData) × (reply : ReplyData) × (w : WorldData) × (marks : List MarkData)
+        ⊎ (IsOutsideError e × ((a : AskedData) × (reply : ReplyData) × (w : WorldData) × (marks : List MarkData)
         × Carries stage.old.world stage.old.marks.items a reply w marks
-        × AppendsPart (W.contents writer.old) (W.contents writer.new) (told_of a reply)))) }
+        × AppendsPart (W.contents writer.old) (W.contents writer.new) (marked_of a reply)))) }
 {
     match next_line(reader, line) {
         Ok(true) => {}
         Ok(false) => return Ok(false),
         Err(error) => return Err(error),
     }
-    match played(stage, line.as_slice(), number) {
+    match play_line(stage, line.as_slice(), number) {
         Ok(printed) => match put(writer, printed.as_str()) {
             Ok(()) => Ok(true),
             Err(error) => Err(error),
@@ -169,7 +169,7 @@ fn order_line(alloc: Global, list: &[(OpId, char)]) -> Result<String, AllocError
 fn finish<W: Write>(stage: &Stage, writer: &mut W) -> Result<(), SimError>
     ensures whole { OnOk result ((pairs : List (OpId × ℕ)) × IsOneList stage.now.world.made pairs
         × Appends (W.contents writer.old) (W.contents writer.new) (order_line_of pairs)) }
-    ensures part { IfErr result (λ e. IsOutside e
+    ensures part { IfErr result (λ e. IsOutsideError e
         × (Keeps (W.contents writer.old) (W.contents writer.new)
         ⊎ ((pairs : List (OpId × ℕ)) × IsOneList stage.now.world.made pairs
         × AppendsPart (W.contents writer.old) (W.contents writer.new) (order_line_of pairs)))) }
@@ -184,7 +184,7 @@ fn finish<W: Write>(stage: &Stage, writer: &mut W) -> Result<(), SimError>
     }
 }
 
-/// Runs a script: each of its lines is an event of a world of peers, which begins with none, and behind them `order` is
+/// Runs a script: each of its lines is an event of a world of peers, which begins with none, and after them `order` is
 /// printed with the characters of the one list of all elements that were ever inserted. docs/FORMATS.md has the lines
 /// and what is printed of each.
 ///
@@ -198,14 +198,14 @@ pub fn simulate<R: BufRead, W: Write>(
     reader: &mut R,
     writer: &mut W,
 ) -> Result<(), SimError>
-    // What is printed of the lines are the replies of a world's own steps: one run, an event a line, of which the
-    // headline holds; and in the end its one list.
+    // What is printed of the lines are the replies of a world's own steps: one run, an event a line, and the
+    // headline holds of it; and in the end its one list.
     ensures prints { OnOk result (Prints (W.contents writer.old) (W.contents writer.new)) }
     // Whatever the outcome, what is printed is a beginning of that.
     ensures part { PrintsPart (W.contents writer.old) (W.contents writer.new) }
     // At a line that is refused just the lines before it are printed.
     ensures line { (k : ℕ) → result ≡ Err (refusal.Line k)
-        → StopsAt k (W.contents writer.old) (W.contents writer.new) }
+        → StopsAtLine k (W.contents writer.old) (W.contents writer.new) }
 {
     let _len = array_len(ID.0);
     let mut stage = Stage {

@@ -2,7 +2,7 @@
 
 ghost use Rattle.std.specs.Prelude.{◌≡◌, ℕ, Some, IfSome};
 ghost use Rattle.tp_opid.specs.HexText.{IsHexOf};
-ghost use Rattle.tp_simulate.specs.Words.{IsNumber};
+ghost use Rattle.tp_simulate.specs.Words.{IsDecimalOf};
 
 use hex::FromHexError;
 use std::alloc::{AllocError, Global};
@@ -18,8 +18,8 @@ pub(crate) fn words_of<'a>(alloc: Global, line: &'a str) -> Result<Vec<&'a str>,
 
 /// The number that decimal digits spell, up to 2^64 - 1; `None` where there is a sign or another character.
 pub(crate) fn number(word: &str) -> Option<u64>
-    ensures found { IfSome result (IsNumber word.now) }
-    ensures only { (n : ℕ) → IsNumber word.now n → result ≡ Some n }
+    ensures found { IfSome result (IsDecimalOf word.now) }
+    ensures only { (n : ℕ) → IsDecimalOf word.now n → result ≡ Some n }
 {
     if word.starts_with('+') {
         return None;
@@ -29,8 +29,8 @@ pub(crate) fn number(word: &str) -> Option<u64>
 
 /// The number of a peer, a message, a position or a count; see [`number`].
 pub(crate) fn count(word: &str) -> Option<usize>
-    ensures found { IfSome result (IsNumber word.now) }
-    ensures only { (n : ℕ) → IsNumber word.now n → result ≡ Some n }
+    ensures found { IfSome result (IsDecimalOf word.now) }
+    ensures only { (n : ℕ) → IsDecimalOf word.now n → result ≡ Some n }
 {
     match number(word) {
         Some(n) => Some(n as usize),

@@ -14,7 +14,7 @@ use Rattle.tp_store.specs.declared.error.StoreError.TheVariants.{BadMagic, Trunc
 use Rattle.tp_store.specs.declared.layout.Header.{Header}
 use Rattle.tp_store.specs.declared.saved.TheConstants.{MAGIC}
 use Rattle.tp_store.specs.Saved.{piece, header, IsPiece}
-use Rattle.tp_store.specs.Loading.{Layout, letter_at, letters_at, id_at, u32_at, digest_at, header_at, piece_at, behind, pieces_at, layout_at}
+use Rattle.tp_store.specs.Loading.{SavedLayout, letter_at, letters_at, doc_id_at, u32_at, digest_at, header_at, piece_at, offset_after, pieces_at, layout_at}
 
 -- ---- the header
 
@@ -57,10 +57,10 @@ magic_bytes : AreBytes MAGIC
 unfolding are_small
 magic_bytes = small_bytes MAGIC refl
 
-id_field : IsField Truncated id_at (λ (i : DocId). i.0) (λ i. IsBytes 16 i.0)
-unfolding id_at
+id_field : IsField Truncated doc_id_at (λ (i : DocId). i.0) (λ i. IsBytes 16 i.0)
+unfolding doc_id_at
 id_field =
-    as_field Truncated id_at (λ (i : DocId). i.0 ++ []) (λ i. i.0) (λ i. AreSoMany 16 i.0 × (i ≡ record { 0 = i.0 })) (λ i. IsBytes 16 i.0)
+    as_field Truncated doc_id_at (λ (i : DocId). i.0 ++ []) (λ i. i.0) (λ i. AreSoMany 16 i.0 × (i ≡ record { 0 = i.0 })) (λ i. IsBytes 16 i.0)
     (then_field Truncated (or_fail Truncated (bytes_at 16)) (λ bytes. give (record { 0 = bytes })) (λ b. b) (AreSoMany 16) (λ (i : DocId). i.0) (λ _. []) (λ bytes i. i ≡ record { 0 = bytes })
     (bytes_field Truncated 16)
     (λ bytes fit. give_field Truncated (record { 0 = bytes }))
@@ -71,7 +71,7 @@ u32_field : IsField Truncated u32_at (to_be_bytes w32) (λ n. n < 2 ^ 32)
 unfolding u32_at
 u32_field = number_field Truncated w32 (2 ^ 32) wide32
 
--- so many bytes, whatever they are
+-- n bytes, whatever they are
 sized_field : (n : ℕ) → IsField Truncated (or_fail Truncated (bytes_at n)) (λ b. b) (λ b. length b ≡ n)
 unfolding or_fail found_or bytes_at
 sized_field n = record {
@@ -102,10 +102,10 @@ unfolding header_at
 header_field =
     as_field Truncated header_at (λ (h : Header). MAGIC ++ (h.id.0 ++ (to_be_bytes w32 h.count ++ []))) spell_header
     (λ h. Unit {0} × (IsBytes 16 h.id.0 × ((h.count < 2 ^ 32) × (h ≡ header_with h.id h.count)))) IsHeader
-    (then_field Truncated (letters_at MAGIC) (λ _. and_then id_at (λ id. and_then u32_at (λ count. give (header_with id count)))) (λ _. MAGIC) (λ _. Unit {0})
+    (then_field Truncated (letters_at MAGIC) (λ _. and_then doc_id_at (λ id. and_then u32_at (λ count. give (header_with id count)))) (λ _. MAGIC) (λ _. Unit {0})
     (λ (_ : Header). tt) (λ h. h.id.0 ++ (to_be_bytes w32 h.count ++ [])) (λ _ h. IsBytes 16 h.id.0 × ((h.count < 2 ^ 32) × (h ≡ header_with h.id h.count)))
     (letters_field MAGIC magic_bytes)
-    (λ x fit. then_field Truncated id_at (λ id. and_then u32_at (λ count. give (header_with id count))) (λ (i : DocId). i.0) (λ i. IsBytes 16 i.0)
+    (λ x fit. then_field Truncated doc_id_at (λ id. and_then u32_at (λ count. give (header_with id count))) (λ (i : DocId). i.0) (λ i. IsBytes 16 i.0)
     (λ (h : Header). h.id) (λ h. to_be_bytes w32 h.count ++ []) (λ id h. (h.count < 2 ^ 32) × (h ≡ header_with id h.count))
     id_field
     (λ id fit. then_field Truncated u32_at (λ count. give (header_with id count)) (to_be_bytes w32) (λ n. n < 2 ^ 32)
@@ -145,63 +145,63 @@ piece_field at =
 abbrev Fit : ℕ → List ℕ → Type 0
 Fit at p = IsPiece p
 
-pieces_each : (at : ℕ) (ps : List (List ℕ)) → EachFits Fit behind at ps → AllByRecursion IsPiece ps
+pieces_each : (at : ℕ) (ps : List (List ℕ)) → EachFits Fit offset_after at ps → AllByRecursion IsPiece ps
 pieces_each at [] fit = tt
-pieces_each at (p ∷ ps) fit = (fit.0, pieces_each (behind at p) ps fit.1)
+pieces_each at (p ∷ ps) fit = (fit.0, pieces_each (offset_after at p) ps fit.1)
 
-each_piece : (at : ℕ) (ps : List (List ℕ)) → AllByRecursion IsPiece ps → EachFits Fit behind at ps
+each_piece : (at : ℕ) (ps : List (List ℕ)) → AllByRecursion IsPiece ps → EachFits Fit offset_after at ps
 each_piece at [] is = tt
-each_piece at (p ∷ ps) is = (is.0, each_piece (behind at p) ps is.1)
+each_piece at (p ∷ ps) is = (is.0, each_piece (offset_after at p) ps is.1)
 
-pub counted_field : (n at : ℕ) → IsField Truncated (repeat_at piece_at behind n at) (flat_map piece) (λ ps. (length ps ≡ n) × EachFits Fit behind at ps)
-counted_field n at = repeat_field Truncated piece_at behind piece Fit piece_field n at
+pub counted_field : (n at : ℕ) → IsField Truncated (repeat_at piece_at offset_after n at) (flat_map piece) (λ ps. (length ps ≡ n) × EachFits Fit offset_after at ps)
+counted_field n at = repeat_field Truncated piece_at offset_after piece Fit piece_field n at
 
--- so many changes are read again, whatever follows
-pub counted_again : (at : ℕ) (ps : List (List ℕ)) (rest : List ℕ) → AllByRecursion IsPiece ps → repeat_at piece_at behind (length ps) at (flat_map piece ps ++ rest) ≡ Ok (ps, rest)
+-- as many changes are read again as the count says, whatever follows
+pub counted_again : (at : ℕ) (ps : List (List ℕ)) (rest : List ℕ) → AllByRecursion IsPiece ps → repeat_at piece_at offset_after (length ps) at (flat_map piece ps ++ rest) ≡ Ok (ps, rest)
 counted_again at ps rest is = (counted_field (length ps) at).again ps rest (refl, each_piece at ps is)
 
 -- ---- the whole
 
-abbrev pub layout_with : DocId → List (List ℕ) → List ℕ → Layout
+abbrev pub layout_with : DocId → List (List ℕ) → List ℕ → SavedLayout
 layout_with id pieces digest = record { id = id; pieces = pieces; digest = digest }
 
-abbrev spell_behind : Layout → List ℕ
-spell_behind l = flat_map piece l.pieces ++ l.digest
+abbrev spell_after : SavedLayout → List ℕ
+spell_after l = flat_map piece l.pieces ++ l.digest
 
--- what stands behind a header
-record IsBehind (h : Header) (l : Layout) : Type 0 where
+-- what is after a header
+record IsBehind (h : Header) (l : SavedLayout) : Type 0 where
   id : l.id ≡ h.id
   count : length l.pieces ≡ h.count
   pieces : AllByRecursion IsPiece l.pieces
   digest : length l.digest ≡ 32
 
-behind_field : (h : Header) → IsField Truncated (pieces_at h) spell_behind (IsBehind h)
+after_field : (h : Header) → IsField Truncated (pieces_at h) spell_after (IsBehind h)
 unfolding pieces_at
-behind_field h =
-    as_field Truncated (pieces_at h) (λ (l : Layout). flat_map piece l.pieces ++ (l.digest ++ [])) spell_behind
-    (λ l. ((length l.pieces ≡ h.count) × EachFits Fit behind 28 l.pieces) × ((length l.digest ≡ 32) × (l ≡ layout_with h.id l.pieces l.digest))) (IsBehind h)
-    (then_field Truncated (repeat_at piece_at behind h.count 28) (λ ps. and_then digest_at (λ d. give (layout_with h.id ps d))) (flat_map piece) (λ ps. (length ps ≡ h.count) × EachFits Fit behind 28 ps)
-    (λ (l : Layout). l.pieces) (λ l. l.digest ++ []) (λ ps l. (length l.digest ≡ 32) × (l ≡ layout_with h.id ps l.digest))
+after_field h =
+    as_field Truncated (pieces_at h) (λ (l : SavedLayout). flat_map piece l.pieces ++ (l.digest ++ [])) spell_after
+    (λ l. ((length l.pieces ≡ h.count) × EachFits Fit offset_after 28 l.pieces) × ((length l.digest ≡ 32) × (l ≡ layout_with h.id l.pieces l.digest))) (IsBehind h)
+    (then_field Truncated (repeat_at piece_at offset_after h.count 28) (λ ps. and_then digest_at (λ d. give (layout_with h.id ps d))) (flat_map piece) (λ ps. (length ps ≡ h.count) × EachFits Fit offset_after 28 ps)
+    (λ (l : SavedLayout). l.pieces) (λ l. l.digest ++ []) (λ ps l. (length l.digest ≡ 32) × (l ≡ layout_with h.id ps l.digest))
     (counted_field h.count 28)
     (λ ps fit. then_field Truncated digest_at (λ d. give (layout_with h.id ps d)) (λ d. d) (λ d. length d ≡ 32)
-    (λ (l : Layout). l.digest) (λ _. []) (λ d l. l ≡ layout_with h.id ps d)
-    digest_field (λ d fit. give_field Truncated (layout_with h.id ps d)) (λ d l e. ap (λ (x : Layout). x.digest) e))
-    (λ ps l fit. ap (λ (x : Layout). x.pieces) fit.1))
+    (λ (l : SavedLayout). l.digest) (λ _. []) (λ d l. l ≡ layout_with h.id ps d)
+    digest_field (λ d fit. give_field Truncated (layout_with h.id ps d)) (λ d l e. ap (λ (x : SavedLayout). x.digest) e))
+    (λ ps l fit. ap (λ (x : SavedLayout). x.pieces) fit.1))
     (λ l fit. ap (λ (b : List ℕ). flat_map piece l.pieces ++ b) (append-nil l.digest))
-    (λ l fit. record { id = ap (λ (x : Layout). x.id) fit.1.1; count = fit.0.0; pieces = pieces_each 28 l.pieces fit.0.1; digest = fit.1.0 })
+    (λ l fit. record { id = ap (λ (x : SavedLayout). x.id) fit.1.1; count = fit.0.0; pieces = pieces_each 28 l.pieces fit.0.1; digest = fit.1.0 })
     (λ l fit. ((fit.count, each_piece 28 l.pieces fit.pieces), (fit.digest, ap (λ (i : DocId). layout_with i l.pieces l.digest) fit.id)))
 
 -- 16 bytes, changes that the number of 4 bytes counts, and 32 bytes
-pub record IsLayout (l : Layout) : Type 0 where
+pub record IsLayout (l : SavedLayout) : Type 0 where
   pub id : IsBytes 16 l.id.0
   pub count : length l.pieces < 2 ^ 32
   pub pieces : AllByRecursion IsPiece l.pieces
   pub digest : length l.digest ≡ 32
 
-abbrev pub spell_layout : Layout → List ℕ
+abbrev pub spell_layout : SavedLayout → List ℕ
 spell_layout l = header l.id (length l.pieces) ++ (flat_map piece l.pieces ++ l.digest)
 
-header_is : (h : Header) (l : Layout) → IsBehind h l → header_with l.id (length l.pieces) ≡ h
+header_is : (h : Header) (l : SavedLayout) → IsBehind h l → header_with l.id (length l.pieces) ≡ h
 header_is h l is = ap (λ (i : DocId). header_with i (length l.pieces)) is.id ∙ ap (λ (n : ℕ). header_with h.id n) is.count
 
 pub layout_field : IsField Truncated layout_at spell_layout IsLayout
@@ -209,8 +209,8 @@ unfolding layout_at
 layout_field =
     as_field Truncated layout_at spell_layout spell_layout
     (λ l. IsHeader (header_with l.id (length l.pieces)) × IsBehind (header_with l.id (length l.pieces)) l) IsLayout
-    (then_field Truncated header_at pieces_at spell_header IsHeader (λ (l : Layout). header_with l.id (length l.pieces)) spell_behind IsBehind
-    header_field (λ h fit. behind_field h) header_is)
+    (then_field Truncated header_at pieces_at spell_header IsHeader (λ (l : SavedLayout). header_with l.id (length l.pieces)) spell_after IsBehind
+    header_field (λ h fit. after_field h) header_is)
     (λ l fit. refl)
     (λ l fit. record { id = fit.0.id; count = fit.0.count; pieces = fit.1.pieces; digest = fit.1.digest })
     (λ l fit. (record { id = fit.id; count = fit.count }, record { id = refl; count = refl; pieces = fit.pieces; digest = fit.digest }))

@@ -4,14 +4,14 @@ use Rattle.std.specs.Int.{w32, from_be_bytes}
 use Rattle.std.proofs.lemmas.Bool.{ltb-false}
 use Rattle.std.proofs.lemmas.List.{take-append-drop, take_at, length-drop, nil_from_length}
 use Rattle.tp_codec.specs.Prefix.{byte_at, bytes_at, number_at}
-use Rattle.tp_codec.specs.Reading.{Reads, give, and_next, and_then, found_or, or_fail, passed, require, repeat_at}
-use Rattle.tp_change.specs.declared.parts.ChangeParts.{ChangeParts}
+use Rattle.tp_codec.specs.Reading.{Reads, give, and_next, and_then, found_or, or_fail, pass_or_fail, require, repeat_at}
+use Rattle.tp_layout.specs.declared.parts.ChangeParts.{ChangeParts}
 use Rattle.tp_store.specs.declared.error.StoreError.{StoreError}
 use Rattle.tp_store.specs.declared.error.StoreError.TheVariants.{BadMagic, Truncated}
 use Rattle.tp_store.specs.declared.saved.TheConstants.{MAGIC}
 use Rattle.tp_store.specs.declared.layout.Header.{Header}
 use Rattle.tp_store.proofs.LayoutFields.{layout_with}
-use Rattle.tp_store.specs.Loading.{letter_at, letters_at, u32_at, digest_at, header_at, piece_at, behind, pieces_at, layout_at, ended, layout_of, loaded, and_with, grown, entered}
+use Rattle.tp_store.specs.Loading.{letter_at, letters_at, u32_at, digest_at, header_at, piece_at, offset_after, pieces_at, layout_at, end_or_damaged, layout_of, document_of_bytes, and_with, with_piece, with_pieces}
 
 -- ---- letters
 
@@ -35,7 +35,7 @@ letters_done ms i bytes le =
     ap (λ (l : List ℕ). letters_at l bytes) (nil_from_length (drop i ms) (omega arith))
 
 by_letter : (m b : ℕ) (ms bytes : List ℕ) (t : Bool) → eqb b m ≡ t → (t ≡ true → letters_at ms bytes ≡ Err BadMagic) → letters_at (m ∷ ms) (b ∷ bytes) ≡ Err BadMagic
-unfolding letters_at letter_at and_then and_next or_fail found_or byte_at require passed
+unfolding letters_at letter_at and_then and_next or_fail found_or byte_at require pass_or_fail
 by_letter m b ms bytes true same rest = rw same (rest refl)
 by_letter m b ms bytes false other rest = rw other refl
 
@@ -47,8 +47,8 @@ letters_differ (m ∷ ms) (b ∷ bytes) zero lt within other = by_letter m b ms 
 letters_differ (m ∷ ms) (b ∷ bytes) (suc i) lt within other = by_letter m b ms bytes (eqb b m) refl (λ _. letters_differ ms bytes i (omega arith) (omega arith) other)
 
 -- the bytes don't begin as the magic does
-pub magic_differs : (bytes : List ℕ) (i : ℕ) → i < length MAGIC → i < length bytes → (get_or bytes i 0 ≡ get_or MAGIC i 0 → ⊥) → loaded bytes ≡ Err BadMagic
-unfolding loaded layout_of layout_at header_at and_then and_next ended
+pub magic_differs : (bytes : List ℕ) (i : ℕ) → i < length MAGIC → i < length bytes → (get_or bytes i 0 ≡ get_or MAGIC i 0 → ⊥) → document_of_bytes bytes ≡ Err BadMagic
+unfolding document_of_bytes layout_of layout_at header_at and_then and_next end_or_damaged
 magic_differs bytes i lt within other = rw (letters_differ MAGIC bytes i lt within other) refl
 
 -- ---- lengths
@@ -92,56 +92,56 @@ rest_whole n bytes =
 
 -- ---- changes
 
-repeat_more : (n i at : ℕ) (bytes : List ℕ) → i < n → repeat_at piece_at behind (n - i) at bytes ≡ and_next (piece_at at bytes) (λ p. and_then (repeat_at piece_at behind (n - (i + 1)) (behind at p)) (λ ps. give (p ∷ ps)))
+repeat_more : (n i at : ℕ) (bytes : List ℕ) → i < n → repeat_at piece_at offset_after (n - i) at bytes ≡ and_next (piece_at at bytes) (λ p. and_then (repeat_at piece_at offset_after (n - (i + 1)) (offset_after at p)) (λ ps. give (p ∷ ps)))
 unfolding repeat_at
 repeat_more n i at bytes lt =
     let k : n - i ≡ suc (n - (i + 1)) = omega arith in
     rw k refl
 
--- one change was read, and the others stand behind it
-pub one_read : (n i at : ℕ) (bytes p after : List ℕ) (ps : List (List ℕ)) (rest : List ℕ) → i < n → piece_at at bytes ≡ Ok (p, after) → repeat_at piece_at behind (n - i) at bytes ≡ Ok (ps, rest)
-    → (qs : List (List ℕ)) × (ps ≡ p ∷ qs) × (repeat_at piece_at behind (n - (i + 1)) (behind at p) after ≡ Ok (qs, rest))
+-- one change was read, and the others are after it
+pub one_read : (n i at : ℕ) (bytes p after : List ℕ) (ps : List (List ℕ)) (rest : List ℕ) → i < n → piece_at at bytes ≡ Ok (p, after) → repeat_at piece_at offset_after (n - i) at bytes ≡ Ok (ps, rest)
+    → (qs : List (List ℕ)) × (ps ≡ p ∷ qs) × (repeat_at piece_at offset_after (n - (i + 1)) (offset_after at p) after ≡ Ok (qs, rest))
 unfolding and_next and_then give
 one_read n i at bytes p after ps rest lt h e =
-    let read = ap (λ (r : Result (List ℕ × List ℕ) StoreError). and_next r (λ p. and_then (repeat_at piece_at behind (n - (i + 1)) (behind at p)) (λ qs. give (p ∷ qs)))) h in
-    let a = next_ok (repeat_at piece_at behind (n - (i + 1)) (behind at p) after) (λ qs. give (p ∷ qs)) (ps, rest) (sym read ∙ sym (repeat_more n i at bytes lt) ∙ e) in
+    let read = ap (λ (r : Result (List ℕ × List ℕ) StoreError). and_next r (λ p. and_then (repeat_at piece_at offset_after (n - (i + 1)) (offset_after at p)) (λ qs. give (p ∷ qs)))) h in
+    let a = next_ok (repeat_at piece_at offset_after (n - (i + 1)) (offset_after at p) after) (λ qs. give (p ∷ qs)) (ps, rest) (sym read ∙ sym (repeat_more n i at bytes lt) ∙ e) in
     let same = same_pair (p ∷ a.0.0, a.0.1) (ps, rest) a.2 in
     let rest-is : a.0.1 ≡ rest = ap (λ (q : List (List ℕ) × List ℕ). q.1) same in
     (a.0.0, ap (λ (q : List (List ℕ) × List ℕ). q.0) (sym same), a.1 ∙ ap (λ (r : List ℕ). let t : Result (List (List ℕ) × List ℕ) StoreError = Ok (a.0.0, r) in t) rest-is)
 
 -- no fault is read where all can be read
-pub none_bad : (n i at : ℕ) (bytes : List ℕ) (e : StoreError) (ps : List (List ℕ)) (rest : List ℕ) → i < n → piece_at at bytes ≡ Err e → repeat_at piece_at behind (n - i) at bytes ≡ Ok (ps, rest) → ⊥
+pub none_bad : (n i at : ℕ) (bytes : List ℕ) (e : StoreError) (ps : List (List ℕ)) (rest : List ℕ) → i < n → piece_at at bytes ≡ Err e → repeat_at piece_at offset_after (n - i) at bytes ≡ Ok (ps, rest) → ⊥
 unfolding and_next
 none_bad n i at bytes e ps rest lt h r =
-    let bad = ap (λ (r : Result (List ℕ × List ℕ) StoreError). and_next r (λ p. and_then (repeat_at piece_at behind (n - (i + 1)) (behind at p)) (λ qs. give (p ∷ qs)))) h in
+    let bad = ap (λ (r : Result (List ℕ × List ℕ) StoreError). and_next r (λ p. and_then (repeat_at piece_at offset_after (n - (i + 1)) (offset_after at p)) (λ qs. give (p ∷ qs)))) h in
     let no : (let t : Result (List (List ℕ) × List ℕ) StoreError = Err e in t) ≡ Ok (ps, rest) = sym bad ∙ sym (repeat_more n i at bytes lt) ∙ r in
     absurd cc
 
 -- none is left
-pub none_left : (n i at : ℕ) (bytes : List ℕ) (ps : List (List ℕ)) (rest : List ℕ) → n ≤ i → repeat_at piece_at behind (n - i) at bytes ≡ Ok (ps, rest) → ps ≡ []
+pub none_left : (n i at : ℕ) (bytes : List ℕ) (ps : List (List ℕ)) (rest : List ℕ) → n ≤ i → repeat_at piece_at offset_after (n - i) at bytes ≡ Ok (ps, rest) → ps ≡ []
 unfolding repeat_at
 none_left n i at bytes ps rest le e =
     let k : n - i ≡ zero = omega arith in
-    let none : (let t : Result (List (List ℕ) × List ℕ) StoreError = Ok ([], bytes) in t) ≡ Ok (ps, rest) = ap (λ (m : ℕ). repeat_at piece_at behind m at bytes) (sym k) ∙ e in
+    let none : (let t : Result (List (List ℕ) × List ℕ) StoreError = Ok ([], bytes) in t) ≡ Ok (ps, rest) = ap (λ (m : ℕ). repeat_at piece_at offset_after m at bytes) (sym k) ∙ e in
     ap (λ (q : List (List ℕ) × List ℕ). q.0) (sym (same_pair ([], bytes) (ps, rest) none))
 
 -- the changes are entered in turn
-pub entered_on : (at : ℕ) (C D : List ChangeParts) (p : List ℕ) (ps qs : List (List ℕ)) → ps ≡ p ∷ qs → grown at C p ≡ Ok D → entered at C ps ≡ entered (behind at p) D qs
-unfolding entered
+pub entered_on : (at : ℕ) (C D : List ChangeParts) (p : List ℕ) (ps qs : List (List ℕ)) → ps ≡ p ∷ qs → with_piece at C p ≡ Ok D → with_pieces at C ps ≡ with_pieces (offset_after at p) D qs
+unfolding with_pieces
 entered_on at C D p ps qs first h =
-    ap (entered at C) first ∙ ap (λ (r : Result (List ChangeParts) StoreError). and_with r (λ E. entered (behind at p) E qs)) h
+    ap (with_pieces at C) first ∙ ap (λ (r : Result (List ChangeParts) StoreError). and_with r (λ E. with_pieces (offset_after at p) E qs)) h
 
-pub entered_bad : (at : ℕ) (C : List ChangeParts) (p : List ℕ) (ps qs : List (List ℕ)) (e : StoreError) → ps ≡ p ∷ qs → grown at C p ≡ Err e → entered at C ps ≡ Err e
-unfolding entered
+pub entered_bad : (at : ℕ) (C : List ChangeParts) (p : List ℕ) (ps qs : List (List ℕ)) (e : StoreError) → ps ≡ p ∷ qs → with_piece at C p ≡ Err e → with_pieces at C ps ≡ Err e
+unfolding with_pieces
 entered_bad at C p ps qs e first h =
-    ap (entered at C) first ∙ ap (λ (r : Result (List ChangeParts) StoreError). and_with r (λ E. entered (behind at p) E qs)) h
+    ap (with_pieces at C) first ∙ ap (λ (r : Result (List ChangeParts) StoreError). and_with r (λ E. with_pieces (offset_after at p) E qs)) h
 
-pub entered_done : (at : ℕ) (C : List ChangeParts) (ps : List (List ℕ)) → ps ≡ [] → entered at C ps ≡ Ok C
-unfolding entered
-entered_done at C ps none = ap (entered at C) none
+pub entered_done : (at : ℕ) (C : List ChangeParts) (ps : List (List ℕ)) → ps ≡ [] → with_pieces at C ps ≡ Ok C
+unfolding with_pieces
+entered_done at C ps none = ap (with_pieces at C) none
 
 -- the changes and the digest make the layout
-pub pieces_of : (h : Header) (bytes mid rest d : List ℕ) (ps : List (List ℕ)) → repeat_at piece_at behind h.count 28 bytes ≡ Ok (ps, mid) → digest_at mid ≡ Ok (d, rest) → pieces_at h bytes ≡ Ok (layout_with h.id ps d, rest)
+pub pieces_of : (h : Header) (bytes mid rest d : List ℕ) (ps : List (List ℕ)) → repeat_at piece_at offset_after h.count 28 bytes ≡ Ok (ps, mid) → digest_at mid ≡ Ok (d, rest) → pieces_at h bytes ≡ Ok (layout_with h.id ps d, rest)
 unfolding pieces_at and_then and_next give
 pieces_of h bytes mid rest d ps one two =
     ap (λ (r : Result (List (List ℕ) × List ℕ) StoreError). and_next r (λ qs. and_then digest_at (λ e. give (layout_with h.id qs e)))) one

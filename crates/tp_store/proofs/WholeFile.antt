@@ -13,28 +13,27 @@ use Rattle.sha2.proofs.Facts256.{length-sha256}
 use Rattle.tp_opid.specs.declared.doc_id.DocId.{DocId}
 use Rattle.tp_codec.specs.Reading.{repeat_at}
 use Rattle.tp_codec.proofs.Fields.{AreBytes, AreBytes-rest, AreBytes-take, reads_more}
-use Rattle.tp_change.specs.declared.parts.ChangeParts.{ChangeParts}
+use Rattle.tp_layout.specs.declared.parts.ChangeParts.{ChangeParts}
 use Rattle.tp_list.specs.Bytes.{IsBytes}
-use Rattle.tp_change.specs.Limits.{IsChange}
-use Rattle.tp_change.specs.Spelling.{spelling}
-use Rattle.tp_change.specs.declared.error.ChangeError.{ChangeError}
-use Rattle.tp_change.specs.Reading.{change_at}
-use Rattle.tp_change.proofs.WholeChange.{change_again}
-use Rattle.tp_graph.specs.declared.error.GraphError.{GraphError}
-use Rattle.tp_graph.specs.Fit.{cause}
-use Rattle.tp_change.proofs.SpellingLaws.{spelling_bounds}
-use Rattle.tp_document.specs.DocState.{AllChanges}
+use Rattle.tp_layout.specs.Limits.{IsChange, AllChanges}
+use Rattle.tp_layout.specs.Spelling.{spelling, framed_change}
+use Rattle.tp_layout.specs.declared.error.ChangeError.{ChangeError}
+use Rattle.tp_layout.specs.Reading.{change_at}
+use Rattle.tp_layout.proofs.WholeChange.{change_again}
+use Rattle.tp_history.specs.declared.error.GraphError.{GraphError}
+use Rattle.tp_history.specs.Fit.{cause}
+use Rattle.tp_layout.proofs.SpellingLaws.{spelling_bounds}
 use Rattle.tp_store.specs.declared.error.StoreError.{StoreError}
 use Rattle.tp_store.specs.declared.error.StoreError.TheVariants.{Truncated, BadDigest, Damaged, Refused}
-use Rattle.tp_store.specs.Saved.{piece, entry, header, body, saved, IsPiece, laid_out, CanBeSaved, IsSaved}
-use Rattle.tp_store.specs.Loading.{Layout, piece_at, behind, layout_at, ended, layout_of, entered, and_with, decoded, pushed, grown, digest_of, with_id, restored, loaded}
+use Rattle.tp_store.specs.Saved.{piece, header, body, saved_file, IsPiece, laid_out, CanBeSaved, IsSaved}
+use Rattle.tp_store.specs.Loading.{SavedLayout, piece_at, offset_after, layout_at, end_or_damaged, layout_of, with_pieces, and_with, or_damaged_at, push_or_refuse, with_piece, digest_of, with_id, document_of_layout, document_of_bytes}
 use Rattle.tp_store.proofs.LayoutFields.{IsLayout, counted_again, length-header, layout_with, spell_layout, layout_field}
 use Rattle.tp_store.proofs.Entering.{and_with_ok, Enters, entered_takes, entered_again, entered_stops}
 
 -- ---- the layout
 
-ended_ok : {X : Type 0} (size : ℕ) (r : Result (X × List ℕ) StoreError) (l : X) → ended size r ≡ Ok l → r ≡ Ok (l, [])
-unfolding ended
+ended_ok : {X : Type 0} (size : ℕ) (r : Result (X × List ℕ) StoreError) (l : X) → end_or_damaged size r ≡ Ok l → r ≡ Ok (l, [])
+unfolding end_or_damaged
 ended_ok {X} size (Ok x) l e = by_test (eqb (length x.1) 0) refl e
   where
     by_test : (b : Bool) → eqb (length x.1) 0 ≡ b → (let t : Result X StoreError = cond b (Ok x.0) (Err (Damaged (size - length x.1))) in t) ≡ Ok l → (let t : Result (X × List ℕ) StoreError = Ok x in t) ≡ Ok (l, [])
@@ -45,26 +44,26 @@ ended_ok {X} size (Ok x) l e = by_test (eqb (length x.1) 0) refl e
     by_test false h e = absurd cc
 ended_ok size (Err d) l e = absurd cc
 
-ended_of_ok : {X : Type 0} (size : ℕ) (r : Result (X × List ℕ) StoreError) (l : X) → r ≡ Ok (l, []) → ended size r ≡ Ok l
-unfolding ended
+ended_of_ok : {X : Type 0} (size : ℕ) (r : Result (X × List ℕ) StoreError) (l : X) → r ≡ Ok (l, []) → end_or_damaged size r ≡ Ok l
+unfolding end_or_damaged
 ended_of_ok size r l e = rw e refl
 
 -- what the layout shows spells the bytes
-pub layout_takes : (bytes : List ℕ) (l : Layout) → AreBytes bytes → layout_of bytes ≡ Ok l → (bytes ≡ spell_layout l) × IsLayout l
+pub layout_takes : (bytes : List ℕ) (l : SavedLayout) → AreBytes bytes → layout_of bytes ≡ Ok l → (bytes ≡ spell_layout l) × IsLayout l
 unfolding layout_of
 layout_takes bytes l fits e =
     let t = layout_field.takes bytes l [] fits (ended_ok (length bytes) (layout_at bytes) l e) in
     (t.0 ∙ append-nil (spell_layout l), t.1)
 
-layout_again : (l : Layout) → IsLayout l → layout_of (spell_layout l) ≡ Ok l
+layout_again : (l : SavedLayout) → IsLayout l → layout_of (spell_layout l) ≡ Ok l
 unfolding layout_of
 layout_again l is =
     ended_of_ok (length (spell_layout l)) (layout_at (spell_layout l)) l (ap layout_at (sym (append-nil (spell_layout l))) ∙ layout_field.again l [] is)
 
--- The bytes have a header and a digest, and the changes can be read from behind the header.
-pub changes_stand : (bytes : List ℕ) (l : Layout) → AreBytes bytes → layout_of bytes ≡ Ok l
-    → (28 + 32 ≤ length bytes) × (repeat_at piece_at behind (length l.pieces) 28 (drop 28 bytes) ≡ Ok (l.pieces, l.digest))
-changes_stand bytes l fits e =
+-- The bytes have a header and a digest, and the changes can be read from the end of the header.
+pub changes_present : (bytes : List ℕ) (l : SavedLayout) → AreBytes bytes → layout_of bytes ≡ Ok l
+    → (28 + 32 ≤ length bytes) × (repeat_at piece_at offset_after (length l.pieces) 28 (drop 28 bytes) ≡ Ok (l.pieces, l.digest))
+changes_present bytes l fits e =
     let t = layout_takes bytes l fits e in
     let rest = flat_map piece l.pieces ++ l.digest in
     let size = length-header l.id (length l.pieces) t.1.id in
@@ -72,7 +71,7 @@ changes_stand bytes l fits e =
     let both = length-append (flat_map piece l.pieces) l.digest in
     let digest = t.1.digest in
     let left : drop 28 bytes ≡ rest = ap (drop 28) t.0 ∙ drop_at (header l.id (length l.pieces)) rest 28 size in
-    (omega arith, ap (repeat_at piece_at behind (length l.pieces) 28) left ∙ counted_again 28 l.pieces l.digest t.1.pieces)
+    (omega arith, ap (repeat_at piece_at offset_after (length l.pieces) 28) left ∙ counted_again 28 l.pieces l.digest t.1.pieces)
 
 AreBytes-prefix : (xs ys : List ℕ) → AreBytes (xs ++ ys) → AreBytes xs
 AreBytes-prefix xs ys h = subst AreBytes (take_at xs ys (length xs) refl) (AreBytes-take (length xs) (xs ++ ys) h)
@@ -103,14 +102,14 @@ pieces_are (c ∷ C) is = let b = spelling_bounds c is.0 in (record { from = b.0
 -- ---- the whole
 
 -- the layout of a saved file
-abbrev layout_saved : DocId → List ChangeParts → Layout
+abbrev layout_saved : DocId → List ChangeParts → SavedLayout
 layout_saved id C = layout_with id (map spelling C) (sha256 (body id C))
 
 spelled_saved : (id : DocId) (C : List ChangeParts) (d : List ℕ) → spell_layout (layout_with id (map spelling C) d) ≡ body id C ++ d
 spelled_saved id C d =
     ap (λ (n : ℕ). header id n ++ (flat_map piece (map spelling C) ++ d)) (length-map C spelling)
     ∙ ap (λ (b : List ℕ). header id (length C) ++ (b ++ d)) (flat_map-map piece spelling C)
-    ∙ sym (append_assoc (header id (length C)) (flat_map entry C) d)
+    ∙ sym (append_assoc (header id (length C)) (flat_map framed_change C) d)
 
 prefix_is : (bytes prefix d : List ℕ) → bytes ≡ prefix ++ d → length d ≡ 32 → take (length bytes - 32) bytes ≡ prefix
 prefix_is bytes prefix d e is =
@@ -124,18 +123,18 @@ with_id_ok id (Ok D) jd C e =
     (ap (λ (q : DocId × List ChangeParts). let r : Result (List ChangeParts) StoreError = Ok q.1 in r) p, ap (λ (q : DocId × List ChangeParts). q.0) p)
 with_id_ok id (Err x) jd C e = absurd cc
 
-restored_ok : (bytes : List ℕ) (l : Layout) (id : DocId) (C : List ChangeParts) → restored bytes l ≡ Ok (id, C) → (l.digest ≡ digest_of bytes) × (entered 28 [] l.pieces ≡ Ok C) × (l.id ≡ id)
+restored_ok : (bytes : List ℕ) (l : SavedLayout) (id : DocId) (C : List ChangeParts) → document_of_layout bytes l ≡ Ok (id, C) → (l.digest ≡ digest_of bytes) × (with_pieces 28 [] l.pieces ≡ Ok C) × (l.id ≡ id)
 restored_ok bytes l id C e = by_test (bytes_eq l.digest (digest_of bytes)) refl e
   where
-    by_test : (b : Bool) → bytes_eq l.digest (digest_of bytes) ≡ b → cond b (with_id l.id (entered 28 [] l.pieces)) (Err BadDigest) ≡ Ok (id, C)
-        → (l.digest ≡ digest_of bytes) × (entered 28 [] l.pieces ≡ Ok C) × (l.id ≡ id)
+    by_test : (b : Bool) → bytes_eq l.digest (digest_of bytes) ≡ b → cond b (with_id l.id (with_pieces 28 [] l.pieces)) (Err BadDigest) ≡ Ok (id, C)
+        → (l.digest ≡ digest_of bytes) × (with_pieces 28 [] l.pieces ≡ Ok C) × (l.id ≡ id)
     by_test true h e =
-        let p = with_id_ok l.id (entered 28 [] l.pieces) id C e in
+        let p = with_id_ok l.id (with_pieces 28 [] l.pieces) id C e in
         ((bytes_eq-Decides l.digest (digest_of bytes)).0 h, p.0, p.1)
     by_test false h e = absurd cc
 
-saved_of : (bytes : List ℕ) (l : Layout) (id : DocId) (C : List ChangeParts) → bytes ≡ spell_layout l → IsLayout l → l.digest ≡ digest_of bytes → l.id ≡ id → Enters [] l.pieces C C → IsSaved bytes id C
-unfolding saved
+saved_of : (bytes : List ℕ) (l : SavedLayout) (id : DocId) (C : List ChangeParts) → bytes ≡ spell_layout l → IsLayout l → l.digest ≡ digest_of bytes → l.id ≡ id → Enters [] l.pieces C C → IsSaved bytes id C
+unfolding saved_file
 saved_of bytes l id C whole is digest same in_turn =
     let bytes-are : bytes ≡ body id C ++ l.digest =
     whole
@@ -149,19 +148,19 @@ saved_of bytes l id C whole is digest same in_turn =
     }
 
 -- what is written in turn is the saved file
-pub written : (id : DocId) (C : List ChangeParts) (none head prefix whole : List ℕ) → none ≡ [] → head ≡ none ++ header id (length C) → prefix ≡ head ++ flat_map entry C → whole ≡ prefix ++ sha256 prefix
-    → whole ≡ saved id C
-unfolding saved
+pub written : (id : DocId) (C : List ChangeParts) (none head prefix whole : List ℕ) → none ≡ [] → head ≡ none ++ header id (length C) → prefix ≡ head ++ flat_map framed_change C → whole ≡ prefix ++ sha256 prefix
+    → whole ≡ saved_file id C
+unfolding saved_file
 written id C none head prefix whole a b c d =
     let first : head ≡ header id (length C) = b ∙ ap (λ (l : List ℕ). l ++ header id (length C)) a in
-    let second : prefix ≡ body id C = c ∙ ap (λ (l : List ℕ). l ++ flat_map entry C) first in
+    let second : prefix ≡ body id C = c ∙ ap (λ (l : List ℕ). l ++ flat_map framed_change C) first in
     d ∙ ap (λ (l : List ℕ). l ++ sha256 l) second
 
 -- What loads is the saved file of what it loads as.
-pub loaded_takes : (bytes : List ℕ) (id : DocId) (C : List ChangeParts) → AreBytes bytes → loaded bytes ≡ Ok (id, C) → IsSaved bytes id C
-unfolding loaded
+pub loaded_takes : (bytes : List ℕ) (id : DocId) (C : List ChangeParts) → AreBytes bytes → document_of_bytes bytes ≡ Ok (id, C) → IsSaved bytes id C
+unfolding document_of_bytes
 loaded_takes bytes id C fits e =
-    let a = and_with_ok (layout_of bytes) (restored bytes) (id, C) e in
+    let a = and_with_ok (layout_of bytes) (document_of_layout bytes) (id, C) e in
     let l = a.0 in
     let t = layout_takes bytes l fits a.1 in
     let r = restored_ok bytes l id C a.2 in
@@ -169,29 +168,29 @@ loaded_takes bytes id C fits e =
     let n = entered_takes 28 [] l.pieces C (pieces_bytes l.pieces l.digest rest) (omega arith) r.1 in
     saved_of bytes l id C t.0 t.1 r.0 r.2 (subst (λ (N : List ChangeParts). Enters [] l.pieces C N) (sym n.1.grown) n.1)
 
-restored_of : (bytes : List ℕ) (l : Layout) (C : List ChangeParts) → l.digest ≡ digest_of bytes → entered 28 [] l.pieces ≡ Ok C → restored bytes l ≡ Ok (l.id, C)
+restored_of : (bytes : List ℕ) (l : SavedLayout) (C : List ChangeParts) → l.digest ≡ digest_of bytes → with_pieces 28 [] l.pieces ≡ Ok C → document_of_layout bytes l ≡ Ok (l.id, C)
 restored_of bytes l C digest in_turn =
-    ap (λ b. cond b (with_id l.id (entered 28 [] l.pieces)) (Err BadDigest)) ((bytes_eq-Decides l.digest (digest_of bytes)).1 digest)
+    ap (λ b. cond b (with_id l.id (with_pieces 28 [] l.pieces)) (Err BadDigest)) ((bytes_eq-Decides l.digest (digest_of bytes)).1 digest)
     ∙ ap (λ (r : Result (List ChangeParts) StoreError). with_id l.id r) in_turn
 
 -- the layout's fault is the answer
-pub loaded_bad : (bytes : List ℕ) (e : StoreError) → layout_of bytes ≡ Err e → loaded bytes ≡ Err e
-unfolding loaded
-loaded_bad bytes e h = ap (λ (r : Result Layout StoreError). and_with r (restored bytes)) h
+pub loaded_bad : (bytes : List ℕ) (e : StoreError) → layout_of bytes ≡ Err e → document_of_bytes bytes ≡ Err e
+unfolding document_of_bytes
+loaded_bad bytes e h = ap (λ (r : Result SavedLayout StoreError). and_with r (document_of_layout bytes)) h
 
 -- so is another digest
-pub digest_bad : (bytes : List ℕ) (l : Layout) → layout_of bytes ≡ Ok l → bytes_eq l.digest (digest_of bytes) ≡ false → loaded bytes ≡ Err BadDigest
-unfolding loaded
+pub digest_bad : (bytes : List ℕ) (l : SavedLayout) → layout_of bytes ≡ Ok l → bytes_eq l.digest (digest_of bytes) ≡ false → document_of_bytes bytes ≡ Err BadDigest
+unfolding document_of_bytes
 digest_bad bytes l h other =
-    ap (λ (r : Result Layout StoreError). and_with r (restored bytes)) h
-    ∙ ap (λ b. cond b (with_id l.id (entered 28 [] l.pieces)) (Err BadDigest)) other
+    ap (λ (r : Result SavedLayout StoreError). and_with r (document_of_layout bytes)) h
+    ∙ ap (λ b. cond b (with_id l.id (with_pieces 28 [] l.pieces)) (Err BadDigest)) other
 
 -- and else what comes of the changes
-pub loaded_changes : (bytes : List ℕ) (l : Layout) → layout_of bytes ≡ Ok l → bytes_eq l.digest (digest_of bytes) ≡ true → loaded bytes ≡ with_id l.id (entered 28 [] l.pieces)
-unfolding loaded
+pub loaded_changes : (bytes : List ℕ) (l : SavedLayout) → layout_of bytes ≡ Ok l → bytes_eq l.digest (digest_of bytes) ≡ true → document_of_bytes bytes ≡ with_id l.id (with_pieces 28 [] l.pieces)
+unfolding document_of_bytes
 loaded_changes bytes l h same =
-    ap (λ (r : Result Layout StoreError). and_with r (restored bytes)) h
-    ∙ ap (λ b. cond b (with_id l.id (entered 28 [] l.pieces)) (Err BadDigest)) same
+    ap (λ (r : Result SavedLayout StoreError). and_with r (document_of_layout bytes)) h
+    ∙ ap (λ b. cond b (with_id l.id (with_pieces 28 [] l.pieces)) (Err BadDigest)) same
 
 layout_saved_is : (id : DocId) (C : List ChangeParts) → CanBeSaved id C → IsLayout (layout_saved id C)
 layout_saved_is id C can = record {
@@ -201,25 +200,25 @@ layout_saved_is id C can = record {
   digest = length-sha256 (body id C);
 }
 
-layout_of_saved : (id : DocId) (C : List ChangeParts) → CanBeSaved id C → layout_of (saved id C) ≡ Ok (layout_saved id C)
-unfolding saved
+layout_of_saved : (id : DocId) (C : List ChangeParts) → CanBeSaved id C → layout_of (saved_file id C) ≡ Ok (layout_saved id C)
+unfolding saved_file
 layout_of_saved id C can =
     ap layout_of (sym (spelled_saved id C (sha256 (body id C)))) ∙ layout_again (layout_saved id C) (layout_saved_is id C can)
 
-digest_of_saved : (id : DocId) (C : List ChangeParts) → digest_of (saved id C) ≡ sha256 (body id C)
-unfolding saved
+digest_of_saved : (id : DocId) (C : List ChangeParts) → digest_of (saved_file id C) ≡ sha256 (body id C)
+unfolding saved_file
 digest_of_saved id C = ap sha256 (prefix_is (body id C ++ sha256 (body id C)) (body id C) (sha256 (body id C)) refl (length-sha256 (body id C)))
 
 -- A saved file loads as what was saved.
-pub loaded_again : (id : DocId) (C : List ChangeParts) → CanBeSaved id C → loaded (saved id C) ≡ Ok (id, C)
-unfolding loaded
+pub loaded_again : (id : DocId) (C : List ChangeParts) → CanBeSaved id C → document_of_bytes (saved_file id C) ≡ Ok (id, C)
+unfolding document_of_bytes
 loaded_again id C can =
-    let in_turn : entered 28 [] (map spelling C) ≡ Ok C = entered_again 28 [] C (all_from C can.limits) can.sound can.few in
-    ap (λ (r : Result Layout StoreError). and_with r (restored (saved id C))) (layout_of_saved id C can)
-    ∙ restored_of (saved id C) (layout_saved id C) C (sym (digest_of_saved id C)) in_turn
+    let in_turn : with_pieces 28 [] (map spelling C) ≡ Ok C = entered_again 28 [] C (all_from C can.limits) can.sound can.few in
+    ap (λ (r : Result SavedLayout StoreError). and_with r (document_of_layout (saved_file id C))) (layout_of_saved id C can)
+    ∙ restored_of (saved_file id C) (layout_saved id C) C (sym (digest_of_saved id C)) in_turn
 
-pub loaded_of : (bytes : List ℕ) (id : DocId) (C : List ChangeParts) → IsSaved bytes id C → loaded bytes ≡ Ok (id, C)
-loaded_of bytes id C is = ap loaded is.spelled ∙ loaded_again id C is.can
+pub loaded_of : (bytes : List ℕ) (id : DocId) (C : List ChangeParts) → IsSaved bytes id C → document_of_bytes bytes ≡ Ok (id, C)
+loaded_of bytes id C is = ap document_of_bytes is.spelled ∙ loaded_again id C is.can
 
 pub same_result : (id jd : DocId) (C D : List ChangeParts) → (let r : Result (DocId × List ChangeParts) StoreError = Ok (id, C) in r) ≡ Ok (jd, D) → (id ≡ jd) × (C ≡ D)
 same_result id jd C D e =
@@ -227,62 +226,62 @@ same_result id jd C D e =
     (ap (λ (q : DocId × List ChangeParts). q.0) p, ap (λ (q : DocId × List ChangeParts). q.1) p)
 
 -- No bytes are two saved files.
-pub one_saved : (id jd : DocId) (C D : List ChangeParts) → CanBeSaved id C → CanBeSaved jd D → saved id C ≡ saved jd D → (id ≡ jd) × (C ≡ D)
-one_saved id jd C D p q e = same_result id jd C D (sym (loaded_again id C p) ∙ ap loaded e ∙ loaded_again jd D q)
+pub one_saved : (id jd : DocId) (C D : List ChangeParts) → CanBeSaved id C → CanBeSaved jd D → saved_file id C ≡ saved_file jd D → (id ≡ jd) × (C ≡ D)
+one_saved id jd C D p q e = same_result id jd C D (sym (loaded_again id C p) ∙ ap document_of_bytes e ∙ loaded_again jd D q)
 
 -- ---- cuts, and what follows
 
-layout_at_saved : (id : DocId) (C : List ChangeParts) (more : List ℕ) → CanBeSaved id C → layout_at (saved id C ++ more) ≡ Ok (layout_saved id C, more)
-unfolding saved
+layout_at_saved : (id : DocId) (C : List ChangeParts) (more : List ℕ) → CanBeSaved id C → layout_at (saved_file id C ++ more) ≡ Ok (layout_saved id C, more)
+unfolding saved_file
 layout_at_saved id C more can =
     ap (λ (b : List ℕ). layout_at (b ++ more)) (sym (spelled_saved id C (sha256 (body id C)))) ∙ layout_field.again (layout_saved id C) more (layout_saved_is id C can)
 
-some_left : (size : ℕ) (l : Layout) (rest : List ℕ) → 0 < length rest → ended size (let r : Result (Layout × List ℕ) StoreError = Ok (l, rest) in r) ≡ Err (Damaged (size - length rest))
-unfolding ended
+some_left : (size : ℕ) (l : SavedLayout) (rest : List ℕ) → 0 < length rest → end_or_damaged size (let r : Result (SavedLayout × List ℕ) StoreError = Ok (l, rest) in r) ≡ Err (Damaged (size - length rest))
+unfolding end_or_damaged
 some_left size l rest some = by_test (eqb (length rest) 0) refl
   where
     by_test : (b : Bool) → eqb (length rest) 0 ≡ b → cond b (Ok l) (Err (Damaged (size - length rest))) ≡ Err (Damaged (size - length rest))
     by_test true h = absurd (let none = eqb-true _ _ h in omega arith)
     by_test false h = refl
 
--- Bytes behind a saved file are damaged, where the first of them stands.
-pub more_damaged : (id : DocId) (C : List ChangeParts) (more : List ℕ) → CanBeSaved id C → 0 < length more → loaded (saved id C ++ more) ≡ Err (Damaged (length (saved id C)))
-unfolding loaded layout_of
+-- Bytes after a saved file are damaged, at the place of the first of them.
+pub more_damaged : (id : DocId) (C : List ChangeParts) (more : List ℕ) → CanBeSaved id C → 0 < length more → document_of_bytes (saved_file id C ++ more) ≡ Err (Damaged (length (saved_file id C)))
+unfolding document_of_bytes layout_of
 more_damaged id C more can some =
-    let whole = saved id C ++ more in
-    let size : length whole ≡ length (saved id C) + length more = length-append (saved id C) more in
-    let at : length whole - length more ≡ length (saved id C) = omega arith in
-    ap (λ (r : Result (Layout × List ℕ) StoreError). and_with (ended (length whole) r) (restored whole)) (layout_at_saved id C more can)
-    ∙ ap (λ (r : Result Layout StoreError). and_with r (restored whole)) (some_left (length whole) (layout_saved id C) more some)
+    let whole = saved_file id C ++ more in
+    let size : length whole ≡ length (saved_file id C) + length more = length-append (saved_file id C) more in
+    let at : length whole - length more ≡ length (saved_file id C) = omega arith in
+    ap (λ (r : Result (SavedLayout × List ℕ) StoreError). and_with (end_or_damaged (length whole) r) (document_of_layout whole)) (layout_at_saved id C more can)
+    ∙ ap (λ (r : Result SavedLayout StoreError). and_with r (document_of_layout whole)) (some_left (length whole) (layout_saved id C) more some)
     ∙ ap (λ (n : ℕ). let r : Result (DocId × List ChangeParts) StoreError = Err (Damaged n) in r) at
 
-same_pair : (x y : Layout × List ℕ) → (let r : Result (Layout × List ℕ) StoreError = Ok x in r) ≡ Ok y → x ≡ y
+same_pair : (x y : SavedLayout × List ℕ) → (let r : Result (SavedLayout × List ℕ) StoreError = Ok x in r) ≡ Ok y → x ≡ y
 same_pair x y e = cc
 
-cut_layout : (prefix more : List ℕ) (l : Layout) → AreBytes prefix → layout_at (prefix ++ more) ≡ Ok (l, []) → 0 < length more → layout_at prefix ≡ Err Truncated
+cut_layout : (prefix more : List ℕ) (l : SavedLayout) → AreBytes prefix → layout_at (prefix ++ more) ≡ Ok (l, []) → 0 < length more → layout_at prefix ≡ Err Truncated
 cut_layout prefix more l fits whole some = by_result (layout_at prefix) refl
   where
-    by_fault : (e : StoreError) → layout_at prefix ≡ Err e → (let r : Result (Layout × List ℕ) StoreError = Err e in r) ≡ Err Truncated
+    by_fault : (e : StoreError) → layout_at prefix ≡ Err e → (let r : Result (SavedLayout × List ℕ) StoreError = Err e in r) ≡ Err Truncated
     by_fault Truncated h = refl
     by_fault e h =
         let stays = layout_field.stays prefix more e fits h (λ same. absurd cc) in
-        absurd (let no : (let r : Result (Layout × List ℕ) StoreError = Err e in r) ≡ Ok (l, []) = sym stays ∙ whole in cc)
+        absurd (let no : (let r : Result (SavedLayout × List ℕ) StoreError = Err e in r) ≡ Ok (l, []) = sym stays ∙ whole in cc)
 
-    by_result : (r : Result (Layout × List ℕ) StoreError) → layout_at prefix ≡ r → r ≡ Err Truncated
+    by_result : (r : Result (SavedLayout × List ℕ) StoreError) → layout_at prefix ≡ r → r ≡ Err Truncated
     by_result (Ok x) h =
         let on = reads_more Truncated layout_at spell_layout IsLayout layout_field prefix more x.0 x.1 fits h in
-        let same : (let q : Layout × List ℕ = (x.0, x.1 ++ more) in q) ≡ (l, []) = same_pair (x.0, x.1 ++ more) (l, []) (sym on ∙ whole) in
-        let none : length (x.1 ++ more) ≡ 0 = ap (λ (q : Layout × List ℕ). length q.1) same in
+        let same : (let q : SavedLayout × List ℕ = (x.0, x.1 ++ more) in q) ≡ (l, []) = same_pair (x.0, x.1 ++ more) (l, []) (sym on ∙ whole) in
+        let none : length (x.1 ++ more) ≡ 0 = ap (λ (q : SavedLayout × List ℕ). length q.1) same in
         let size = length-append x.1 more in
         absurd (omega arith)
     by_result (Err e) h = by_fault e h
 
 -- A saved file that is cut is truncated.
-pub cut_truncated : (id : DocId) (C : List ChangeParts) (prefix more : List ℕ) → CanBeSaved id C → AreBytes prefix → saved id C ≡ prefix ++ more → 0 < length more → loaded prefix ≡ Err Truncated
-unfolding loaded layout_of ended
+pub cut_truncated : (id : DocId) (C : List ChangeParts) (prefix more : List ℕ) → CanBeSaved id C → AreBytes prefix → saved_file id C ≡ prefix ++ more → 0 < length more → document_of_bytes prefix ≡ Err Truncated
+unfolding document_of_bytes layout_of end_or_damaged
 cut_truncated id C prefix more can fits split some =
-    let whole : layout_at (prefix ++ more) ≡ Ok (layout_saved id C, []) = ap layout_at (sym split ∙ sym (append-nil (saved id C))) ∙ layout_at_saved id C [] can in
-    ap (λ (r : Result (Layout × List ℕ) StoreError). and_with (ended (length prefix) r) (restored prefix)) (cut_layout prefix more (layout_saved id C) fits whole some)
+    let whole : layout_at (prefix ++ more) ≡ Ok (layout_saved id C, []) = ap layout_at (sym split ∙ sym (append-nil (saved_file id C))) ∙ layout_at_saved id C [] can in
+    ap (λ (r : Result (SavedLayout × List ℕ) StoreError). and_with (end_or_damaged (length prefix) r) (document_of_layout prefix)) (cut_layout prefix more (layout_saved id C) fits whole some)
 
 -- ---- another digest, and changes that can't enter
 
@@ -291,7 +290,7 @@ not_true true h = absurd (h refl)
 not_true false h = refl
 
 -- Another digest is a bad one.
-pub other_digest : (id : DocId) (C : List ChangeParts) (d : List ℕ) → CanBeSaved id C → length d ≡ 32 → (d ≡ sha256 (body id C) → ⊥) → loaded (body id C ++ d) ≡ Err BadDigest
+pub other_digest : (id : DocId) (C : List ChangeParts) (d : List ℕ) → CanBeSaved id C → length d ≡ 32 → (d ≡ sha256 (body id C) → ⊥) → document_of_bytes (body id C ++ d) ≡ Err BadDigest
 other_digest id C d can size other =
     let l = layout_with id (map spelling C) d in
     let known = layout_saved_is id C can in
@@ -301,7 +300,7 @@ other_digest id C d can size other =
     let digest : digest_of bytes ≡ sha256 (body id C) = ap sha256 (prefix_is bytes (body id C) d refl size) in
     digest_bad bytes l layout (not_true (bytes_eq d (digest_of bytes)) (λ same. other ((bytes_eq-Decides d (digest_of bytes)).0 same ∙ digest)))
 
-loaded_laid : (id : DocId) (ps : List (List ℕ)) → IsBytes 16 id.0 → length ps < 2 ^ 32 → AllByRecursion IsPiece ps → loaded (laid_out id ps) ≡ with_id id (entered 28 [] ps)
+loaded_laid : (id : DocId) (ps : List (List ℕ)) → IsBytes 16 id.0 → length ps < 2 ^ 32 → AllByRecursion IsPiece ps → document_of_bytes (laid_out id ps) ≡ with_id id (with_pieces 28 [] ps)
 unfolding laid_out
 loaded_laid id ps is few each =
     let prefix = header id (length ps) ++ flat_map piece ps in
@@ -319,7 +318,7 @@ pieces_join (p ∷ ps) qs each more = (each.0, pieces_join ps qs each.1 more)
 
 -- The fault of the first change that can't enter is the answer.
 stops : (id : DocId) (C : List ChangeParts) (p : List ℕ) (more : List (List ℕ)) (e : StoreError) → CanBeSaved id C → AllByRecursion IsPiece (p ∷ more) → length C + length (p ∷ more) < 2 ^ 32
-    → grown (28 + length (flat_map entry C)) C p ≡ Err e → loaded (laid_out id (map spelling C ++ p ∷ more)) ≡ Err e
+    → with_piece (28 + length (flat_map framed_change C)) C p ≡ Err e → document_of_bytes (laid_out id (map spelling C ++ p ∷ more)) ≡ Err e
 stops id C p more e can each few bad =
     let is = all_from C can.limits in
     let ps = map spelling C ++ p ∷ more in
@@ -329,15 +328,15 @@ stops id C p more e can each few bad =
     ∙ ap (with_id id) (entered_stops 28 [] C p more e is can.sound can.few bad)
 
 pub not_a_change : (id : DocId) (C : List ChangeParts) (p : List ℕ) (more : List (List ℕ)) (e : ChangeError) → CanBeSaved id C → AllByRecursion IsPiece (p ∷ more) → length C + length (p ∷ more) < 2 ^ 32
-    → change_at p ≡ Err e → loaded (laid_out id (map spelling C ++ p ∷ more)) ≡ Err (Damaged (28 + length (flat_map entry C)))
+    → change_at p ≡ Err e → document_of_bytes (laid_out id (map spelling C ++ p ∷ more)) ≡ Err (Damaged (28 + length (flat_map framed_change C)))
 not_a_change id C p more e can each few bad =
-    let at = 28 + length (flat_map entry C) in
-    stops id C p more (Damaged at) can each few (ap (λ (r : Result ChangeParts ChangeError). and_with (decoded at r) (λ c. pushed C c (cause C c))) bad)
+    let at = 28 + length (flat_map framed_change C) in
+    stops id C p more (Damaged at) can each few (ap (λ (r : Result ChangeParts ChangeError). and_with (or_damaged_at at r) (λ c. push_or_refuse C c (cause C c))) bad)
 
 pub not_fitting : (id : DocId) (C : List ChangeParts) (c : ChangeParts) (more : List (List ℕ)) (e : GraphError) → CanBeSaved id C → IsChange c → AllByRecursion IsPiece more → length C + suc (length more) < 2 ^ 32
-    → cause C c ≡ Some e → loaded (laid_out id (map spelling C ++ spelling c ∷ more)) ≡ Err (Refused e)
+    → cause C c ≡ Some e → document_of_bytes (laid_out id (map spelling C ++ spelling c ∷ more)) ≡ Err (Refused e)
 not_fitting id C c more e can is each few bad =
-    let at = 28 + length (flat_map entry C) in
+    let at = 28 + length (flat_map framed_change C) in
     let b = spelling_bounds c is in
     stops id C (spelling c) more (Refused e) can (record { from = b.0; to = b.1 }, each) few
-    (ap (λ (r : Result ChangeParts ChangeError). and_with (decoded at r) (λ d. pushed C d (cause C d))) (change_again c is) ∙ ap (pushed C c) bad)
+    (ap (λ (r : Result ChangeParts ChangeError). and_with (or_damaged_at at r) (λ d. push_or_refuse C d (cause C d))) (change_again c is) ∙ ap (push_or_refuse C c) bad)

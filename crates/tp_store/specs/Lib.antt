@@ -2,4 +2,4 @@ pub mod StoreError
 pub mod Saved
 pub mod Loading
 pub mod Outlines
-pub mod Gives
+pub mod Documents

@@ -6,12 +6,12 @@ use Rattle.sha2.specs.Sha256.{sha256}
 use Rattle.tp_codec.specs.Prefix.{byte_at, bytes_at, number_at}
 use Rattle.tp_codec.specs.Reading.{Reads, ◌>>=◌, ◌>>◌, give, or_fail, require, repeat_at}
 use Rattle.tp_opid.specs.declared.doc_id.DocId.{DocId}
-use Rattle.tp_change.specs.declared.limits.TheConstants.{MAX_BYTES}
-use Rattle.tp_change.specs.declared.error.ChangeError.{ChangeError}
-use Rattle.tp_change.specs.declared.parts.ChangeParts.{ChangeParts}
-use Rattle.tp_change.specs.Reading.{change_at}
-use Rattle.tp_graph.specs.declared.error.GraphError.{GraphError}
-use Rattle.tp_graph.specs.Fit.{cause}
+use Rattle.tp_layout.specs.declared.limits.TheConstants.{MAX_BYTES}
+use Rattle.tp_layout.specs.declared.error.ChangeError.{ChangeError}
+use Rattle.tp_layout.specs.declared.parts.ChangeParts.{ChangeParts}
+use Rattle.tp_layout.specs.Reading.{change_at}
+use Rattle.tp_history.specs.declared.error.GraphError.{GraphError}
+use Rattle.tp_history.specs.Fit.{cause}
 use Rattle.tp_store.specs.declared.error.StoreError.{StoreError}
 use Rattle.tp_store.specs.declared.error.StoreError.TheVariants.{BadMagic, Truncated, BadDigest, Damaged, Refused}
 use Rattle.tp_store.specs.declared.layout.Header.{Header}
@@ -33,8 +33,8 @@ letters_at (letter ∷ letters) = do
   letters_at letters
 
 -- 16 bytes
-unfoldable pub id_at : Reads StoreError DocId
-id_at = do
+unfoldable pub doc_id_at : Reads StoreError DocId
+doc_id_at = do
   bytes ← or_fail Truncated (bytes_at 16)
   give (record { 0 = bytes })
 
@@ -50,11 +50,11 @@ digest_at = or_fail Truncated (bytes_at DIGEST_LEN)
 unfoldable pub header_at : Reads StoreError Header
 header_at = do
   letters_at MAGIC
-  id ← id_at
+  id ← doc_id_at
   count ← u32_at
   give (record { id = id; count = count })
 
--- The bytes of a change behind their length, which stands at an offset: from 1 to 4,194,304 bytes.
+-- The bytes of a change after their length, which is at an offset: from 1 to 4,194,304 bytes.
 unfoldable pub piece_at : ℕ → Reads StoreError (List ℕ)
 piece_at at = do
   count ← u32_at
@@ -62,36 +62,36 @@ piece_at at = do
   require (nat_le count MAX_BYTES) (Damaged at)
   or_fail Truncated (bytes_at count)
 
--- the offset behind a change whose length stands at an offset
-abbrev pub behind : ℕ → List ℕ → ℕ
-behind at bytes = at + (4 + length bytes)
+-- the offset after a change whose length is at an offset
+abbrev pub offset_after : ℕ → List ℕ → ℕ
+offset_after at bytes = at + (4 + length bytes)
 
 -- What the layout shows: the identifier, the bytes of each change, and the digest.
-pub record Layout : Type 0 where
+pub record SavedLayout : Type 0 where
   pub id : DocId
   pub pieces : List (List ℕ)
   pub digest : List ℕ
 
 -- the bytes of each change, and the digest
-unfoldable pub pieces_at : Header → Reads StoreError Layout
+unfoldable pub pieces_at : Header → Reads StoreError SavedLayout
 pieces_at h = do
-  pieces ← repeat_at piece_at behind h.count HEADER_LEN
+  pieces ← repeat_at piece_at offset_after h.count HEADER_LEN
   digest ← digest_at
   give (record { id = h.id; pieces = pieces; digest = digest })
 
-unfoldable pub layout_at : Reads StoreError Layout
+unfoldable pub layout_at : Reads StoreError SavedLayout
 layout_at = do
   h ← header_at
   pieces_at h
 
 -- Nothing follows; else the first byte too many is damaged. The size is that of all bytes.
-unfoldable pub ended : {X : Type 0} → ℕ → Result (X × List ℕ) StoreError → Result X StoreError
-ended size (Ok x) = if length x.1 == 0 then Ok x.0 else Err (Damaged (size - length x.1))
-ended size (Err e) = Err e
+unfoldable pub end_or_damaged : {X : Type 0} → ℕ → Result (X × List ℕ) StoreError → Result X StoreError
+end_or_damaged size (Ok x) = if length x.1 == 0 then Ok x.0 else Err (Damaged (size - length x.1))
+end_or_damaged size (Err e) = Err e
 
 -- what the layout of the bytes shows, or its first fault from the start
-unfoldable pub layout_of : List ℕ → Result Layout StoreError
-layout_of bytes = ended (length bytes) (layout_at bytes)
+unfoldable pub layout_of : List ℕ → Result SavedLayout StoreError
+layout_of bytes = end_or_damaged (length bytes) (layout_at bytes)
 
 -- ---- the changes
 
@@ -100,24 +100,24 @@ abbrev pub and_with : {X Y : Type 0} → Result X StoreError → (X → Result Y
 and_with (Ok x) next = next x
 and_with (Err e) next = Err e
 
--- the change that was read, whose length stands at an offset
-abbrev pub decoded : ℕ → Result ChangeParts ChangeError → Result ChangeParts StoreError
-decoded at (Ok c) = Ok c
-decoded at (Err e) = Err (Damaged at)
+-- the change that was read, whose length is at an offset
+abbrev pub or_damaged_at : ℕ → Result ChangeParts ChangeError → Result ChangeParts StoreError
+or_damaged_at at (Ok c) = Ok c
+or_damaged_at at (Err e) = Err (Damaged at)
 
 -- the changes with one more, or the cause why it can't enter
-abbrev pub pushed : List ChangeParts → ChangeParts → Option GraphError → Result (List ChangeParts) StoreError
-pushed C c None = Ok (C ++ c ∷ [])
-pushed C c (Some e) = Err (Refused e)
+abbrev pub push_or_refuse : List ChangeParts → ChangeParts → Option GraphError → Result (List ChangeParts) StoreError
+push_or_refuse C c None = Ok (C ++ c ∷ [])
+push_or_refuse C c (Some e) = Err (Refused e)
 
--- the changes with the one that the bytes are, whose length stands at an offset
-abbrev pub grown : ℕ → List ChangeParts → List ℕ → Result (List ChangeParts) StoreError
-grown at C bytes = and_with (decoded at (change_at bytes)) (λ c. pushed C c (cause C c))
+-- the changes with the one that the bytes are, whose length is at an offset
+abbrev pub with_piece : ℕ → List ChangeParts → List ℕ → Result (List ChangeParts) StoreError
+with_piece at C bytes = and_with (or_damaged_at at (change_at bytes)) (λ c. push_or_refuse C c (cause C c))
 
--- the changes with those that the pieces are, of which the first one's length stands at an offset
-unfoldable pub entered : ℕ → List ChangeParts → List (List ℕ) → Result (List ChangeParts) StoreError
-entered at C [] = Ok C
-entered at C (bytes ∷ pieces) = and_with (grown at C bytes) (λ D. entered (behind at bytes) D pieces)
+-- the changes with those that the pieces are; the first one's length is at an offset
+unfoldable pub with_pieces : ℕ → List ChangeParts → List (List ℕ) → Result (List ChangeParts) StoreError
+with_pieces at C [] = Ok C
+with_pieces at C (bytes ∷ pieces) = and_with (with_piece at C bytes) (λ D. with_pieces (offset_after at bytes) D pieces)
 
 -- ---- the whole
 
@@ -131,11 +131,11 @@ with_id id (Ok C) = Ok (id, C)
 with_id id (Err e) = Err e
 
 -- the identifier and the changes that a layout has, where its digest is that of the bytes
-abbrev pub restored : List ℕ → Layout → Result (DocId × List ChangeParts) StoreError
-restored bytes l =
-    if bytes_eq l.digest (digest_of bytes) then with_id l.id (entered HEADER_LEN [] l.pieces)
+abbrev pub document_of_layout : List ℕ → SavedLayout → Result (DocId × List ChangeParts) StoreError
+document_of_layout bytes l =
+    if bytes_eq l.digest (digest_of bytes) then with_id l.id (with_pieces HEADER_LEN [] l.pieces)
     else Err BadDigest
 
 -- the identifier and the changes whose saved file the bytes are, or the refusal
-unfoldable pub loaded : List ℕ → Result (DocId × List ChangeParts) StoreError
-loaded bytes = and_with (layout_of bytes) (restored bytes)
+unfoldable pub document_of_bytes : List ℕ → Result (DocId × List ChangeParts) StoreError
+document_of_bytes bytes = and_with (layout_of bytes) (document_of_layout bytes)

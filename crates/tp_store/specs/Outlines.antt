@@ -2,10 +2,10 @@
 use Rattle.std.specs.Prelude.{◌≡◌, length, Result, Ok, Err}
 use Rattle.tp_store.specs.declared.error.StoreError.{StoreError}
 use Rattle.tp_store.specs.declared.layout.Outline.{Outline}
-use Rattle.tp_store.specs.Loading.{Layout}
+use Rattle.tp_store.specs.Loading.{SavedLayout}
 
 -- The outline has the identifier, the digest and the number of changes of the layout.
-pub record IsOutlineOf (f : Outline) (l : Layout) : Type 0 where
+pub record IsOutlineOf (f : Outline) (l : SavedLayout) : Type 0 where
   pub id : l.id ≡ f.header.id
   pub count : length l.pieces ≡ f.header.count
   pub digest : l.digest ≡ f.digest

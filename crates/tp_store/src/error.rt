@@ -20,7 +20,7 @@ pub enum StoreError {
     /// The digest at the end of a saved file isn't that of the bytes before it.
     #[error("BadDigest")]
     BadDigest,
-    /// What stands at the offset is damaged.
+    /// What is at the offset is damaged.
     #[error("Damaged")]
     Damaged {
         /// The offset, in bytes from 0: of a change's length, or of the first byte too many.

@@ -1,13 +1,13 @@
 //! The layout of a saved file, read from left to right and judged before anything is made of it.
 //!
 //! Nothing here takes memory, whatever count or length the bytes claim: a count is taken at its word until bytes
-//! run out, and a change's bytes are passed over where they stand.
-#![tactic(auto, unfolding(tp_codec::specs::Reading::or_fail, tp_codec::specs::Reading::found_or, tp_codec::specs::Reading::and_then, tp_codec::specs::Reading::and_next, tp_codec::specs::Reading::give, tp_codec::specs::Reading::require, tp_codec::specs::Reading::passed, crate::specs::Loading::letter_at, crate::specs::Loading::id_at, crate::specs::Loading::u32_at, crate::specs::Loading::digest_at, crate::specs::Loading::header_at, crate::specs::Loading::piece_at, crate::specs::Loading::pieces_at, crate::specs::Loading::layout_at, crate::specs::Loading::ended, crate::specs::Loading::layout_of))]
+//! run out, and a change's bytes are passed over where they are.
+#![tactic(auto, unfolding(tp_codec::specs::Reading::or_fail, tp_codec::specs::Reading::found_or, tp_codec::specs::Reading::and_then, tp_codec::specs::Reading::and_next, tp_codec::specs::Reading::give, tp_codec::specs::Reading::require, tp_codec::specs::Reading::pass_or_fail, crate::specs::Loading::letter_at, crate::specs::Loading::doc_id_at, crate::specs::Loading::u32_at, crate::specs::Loading::digest_at, crate::specs::Loading::header_at, crate::specs::Loading::piece_at, crate::specs::Loading::pieces_at, crate::specs::Loading::layout_at, crate::specs::Loading::end_or_damaged, crate::specs::Loading::layout_of))]
 
 ghost use Rattle.std.specs.Prelude.{◌≡◌, ℕ, ◌+◌, ◌<◌, ◌^◌, length, slice_index, IfOk};
 ghost use Rattle.tp_codec.specs.Reading.{repeat_at};
 ghost use Rattle.tp_store.specs.Outlines.{IsOutlineOf, StandsFor};
-ghost use Rattle.tp_store.specs.Gives.{Is};
+ghost use Rattle.tp_codec.specs.Gives.{Is};
 ghost use Rattle.tp_store.specs.Loading as loading;
 
 use crate::error::StoreError;
@@ -16,7 +16,7 @@ use tp_change::MAX_BYTES;
 use tp_codec::Reader;
 use tp_opid::DocId;
 
-/// What stands before the changes, behind the magic.
+/// What is between the magic and the changes.
 #[derive(Clone, Copy)]
 pub(crate) struct Header {
     pub(crate) id: DocId,
@@ -50,7 +50,7 @@ fn magic_of(reader: &mut Reader<'_>) -> Result<(), StoreError>
 }
 
 fn id_of(reader: &mut Reader<'_>) -> Result<DocId, StoreError>
-    ensures { Is (λ id. (id, reader.new)) result (loading.id_at reader.old) }
+    ensures { Is (λ id. (id, reader.new)) result (loading.doc_id_at reader.old) }
 {
     match reader.array_16() {
         Some(bytes) => Ok(DocId(bytes)),
@@ -76,7 +76,7 @@ fn header_of(reader: &mut Reader<'_>) -> Result<Header, StoreError>
     Ok(Header { id, count })
 }
 
-/// The bytes of the next change, whose length stands at an offset.
+/// The bytes of the next change, whose length is at an offset.
 pub(crate) fn piece_of<'a>(reader: &mut Reader<'a>, at: u64) -> Result<&'a [u8], StoreError>
     ensures piece { Is (λ p. (p.now, reader.new)) result (loading.piece_at at reader.old) }
     ensures len { IfOk result (λ p. length reader.old ≡ 4 + length p.now + length reader.new) }
@@ -94,11 +94,11 @@ pub(crate) fn piece_of<'a>(reader: &mut Reader<'a>, at: u64) -> Result<&'a [u8],
     }
 }
 
-// Passes over the bytes of so many changes.
+// Passes over the bytes of `count` changes.
 fn skip_pieces(reader: &mut Reader<'_>, count: u32) -> Result<(), StoreError>
     requires { HEADER_LEN + length reader.old < 2 ^ 64 }
     ensures { StandsFor (λ _ read. (length read.0 ≡ count) × (read.1 ≡ reader.new)) result
-        (repeat_at loading.piece_at loading.behind count HEADER_LEN reader.old) }
+        (repeat_at loading.piece_at loading.offset_after count HEADER_LEN reader.old) }
 {
     let mut at = HEADER_LEN as u64;
     for _ in 0..count {
@@ -117,8 +117,8 @@ fn digest_of(reader: &mut Reader<'_>) -> Result<[u8; 32], StoreError>
     }
 }
 
-// What stands behind the header.
-fn outline_behind(reader: &mut Reader<'_>, header: Header) -> Result<Outline, StoreError>
+// What is after the header.
+fn outline_after(reader: &mut Reader<'_>, header: Header) -> Result<Outline, StoreError>
     requires { HEADER_LEN + length reader.old < 2 ^ 64 }
     ensures { StandsFor (λ outline read. IsOutlineOf outline read.0 × (read.1 ≡ reader.new)) result
         (loading.pieces_at header reader.old) }
@@ -128,7 +128,7 @@ fn outline_behind(reader: &mut Reader<'_>, header: Header) -> Result<Outline, St
     Ok(Outline { header, digest })
 }
 
-// What stands at the start.
+// What is at the start.
 fn outline_at(reader: &mut Reader<'_>) -> Result<Outline, StoreError>
     requires small { length reader.old < 2 ^ 64 }
     requires bytes { (i : ℕ) → slice_index reader.old i < 256 }
@@ -136,7 +136,7 @@ fn outline_at(reader: &mut Reader<'_>) -> Result<Outline, StoreError>
         (loading.layout_at reader.old) }
 {
     let header = header_of(reader)?;
-    outline_behind(reader, header)
+    outline_after(reader, header)
 }
 
 /// What is kept of the layout of all the bytes, or its first fault from the start: `BadMagic`, `Truncated` where a

@@ -2,14 +2,16 @@
 
 ghost use Rattle.std.specs.Prelude.{◌≡◌, ◌+◌, ◌<◌, ◌≤◌, ◌^◌, ℕ, List, [], length, drop, Ok, IfOk};
 ghost use Rattle.std.specs.Str.{bytes_eq};
+ghost use Rattle.tp_codec.specs.Gives.{Gives};
 ghost use Rattle.tp_codec.specs.Reading.{repeat_at};
 ghost use Rattle.tp_opid.specs.declared.doc_id.DocId.{DocId as Identifier};
-ghost use Rattle.tp_change.specs.declared.parts.ChangeParts.{ChangeParts};
-ghost use Rattle.tp_change.specs.Reading as reading;
-ghost use Rattle.tp_graph.specs.Fit.{cause};
-ghost use Rattle.tp_store.specs.Gives.{Gives, IsDocument, contents};
+ghost use Rattle.tp_layout.specs.declared.parts.ChangeParts.{ChangeParts};
+ghost use Rattle.tp_layout.specs.Reading as reading;
+ghost use Rattle.tp_history.specs.Fit.{cause};
+ghost use Rattle.tp_store.specs.Documents.{IsDocument, contents};
 ghost use Rattle.tp_store.specs.Loading as loading;
 ghost use Rattle.tp_store.specs.Saved.{IsSaved};
+ghost use Rattle.tp_store.specs.declared.error.StoreError.TheVariants.{OutOfMemory};
 
 use crate::error::StoreError;
 use crate::layout::{Header, outline_of, piece_of};
@@ -34,7 +36,7 @@ fn has_digest(bytes: &[u8], digest: &[u8; 32]) -> bool
 
 // The next four changes, whose lengths and bytes these are, as those whose digests are expected: none where fewer are
 // whole. It looks at their lengths alone.
-fn expected(bytes: &[u8]) -> Ahead<'_> {
+fn next_four(bytes: &[u8]) -> Ahead<'_> {
     let mut pieces: [&[u8]; 4] = [&[]; 4];
     let mut reader = Reader::new(bytes);
     for i in 0..4 {
@@ -46,14 +48,14 @@ fn expected(bytes: &[u8]) -> Ahead<'_> {
     Ahead::of(pieces)
 }
 
-// The change that the bytes are, whose length stands at the offset.
+// The change that the bytes are, whose length is at the offset.
 fn change_of(
     alloc: Global,
     at: u64,
     bytes: &[u8],
     ahead: &mut Ahead<'_>,
 ) -> Result<Change, StoreError>
-    ensures { Gives (λ c. c) result (loading.decoded at (reading.change_at bytes.now)) }
+    ensures { Gives OutOfMemory (λ c. c) result (loading.or_damaged_at at (reading.change_at bytes.now)) }
 {
     match Change::decode_ahead(alloc, bytes, ahead) {
         Ok(change) => Ok(change),
@@ -64,8 +66,8 @@ fn change_of(
 
 // Enters a change, where it can enter.
 fn push<S: Sequence>(document: &mut Document<S>, change: Change) -> Result<(), StoreError>
-    ensures pushed { Gives (λ _. document.new.applied) result
-        (loading.pushed document.old.applied change (cause document.old.applied change)) }
+    ensures pushed { Gives OutOfMemory (λ _. document.new.applied) result
+        (loading.push_or_refuse document.old.applied change (cause document.old.applied change)) }
     ensures id { document.new.id ≡ document.old.id }
     ensures waiting { document.new.waiting ≡ document.old.waiting }
 {
@@ -79,7 +81,7 @@ fn push<S: Sequence>(document: &mut Document<S>, change: Change) -> Result<(), S
     }
 }
 
-// Enters the change that the bytes are, whose length stands at the offset.
+// Enters the change that the bytes are, whose length is at the offset.
 fn enter_piece<S: Sequence>(
     alloc: Global,
     document: &mut Document<S>,
@@ -87,8 +89,8 @@ fn enter_piece<S: Sequence>(
     bytes: &[u8],
     ahead: &mut Ahead<'_>,
 ) -> Result<(), StoreError>
-    ensures grown { Gives (λ _. document.new.applied) result
-        (loading.grown at document.old.applied bytes.now) }
+    ensures grown { Gives OutOfMemory (λ _. document.new.applied) result
+        (loading.with_piece at document.old.applied bytes.now) }
     ensures id { document.new.id ≡ document.old.id }
     ensures waiting { document.new.waiting ≡ document.old.waiting }
 {
@@ -96,7 +98,7 @@ fn enter_piece<S: Sequence>(
     push(document, change)
 }
 
-// Enters so many changes, which the reader has next: what it has left is the end of the body. The first is hashed
+// Enters `count` changes, which the reader has next: what it has left is the end of the body. The first is hashed
 // alone: where it can't enter, none after it was hashed.
 fn enter_pieces<S: Sequence>(
     alloc: Global,
@@ -107,9 +109,9 @@ fn enter_pieces<S: Sequence>(
 ) -> Result<(), StoreError>
     requires { HEADER_LEN + length reader.old < 2 ^ 64 }
     ensures entered { (pieces : List (List ℕ)) (rest : List ℕ)
-        → repeat_at loading.piece_at loading.behind count HEADER_LEN reader.old ≡ Ok (pieces, rest)
-        → Gives (λ _. document.new.applied) result
-        (loading.entered HEADER_LEN document.old.applied pieces) }
+        → repeat_at loading.piece_at loading.offset_after count HEADER_LEN reader.old ≡ Ok (pieces, rest)
+        → Gives OutOfMemory (λ _. document.new.applied) result
+        (loading.with_pieces HEADER_LEN document.old.applied pieces) }
     ensures id { document.new.id ≡ document.old.id }
     ensures waiting { document.new.waiting ≡ document.old.waiting }
 {
@@ -117,7 +119,7 @@ fn enter_pieces<S: Sequence>(
     let mut ahead = Ahead::none();
     for _ in 0..count {
         if ahead.is_used_up() && !document.changes().is_empty() {
-            ahead = expected(&body[body.len().saturating_sub(reader.len())..]);
+            ahead = next_four(&body[body.len().saturating_sub(reader.len())..]);
         }
         let piece = piece_of(reader, at)?;
         enter_piece(alloc, document, at, piece, &mut ahead)?;
@@ -126,7 +128,7 @@ fn enter_pieces<S: Sequence>(
     Ok(())
 }
 
-// The document with the changes that stand behind the header.
+// The document with the changes that are after the header.
 fn document_of<S: Sequence>(
     alloc: Global,
     bytes: &[u8],
@@ -134,9 +136,9 @@ fn document_of<S: Sequence>(
 ) -> Result<Document<S>, StoreError>
     requires { HEADER_LEN ≤ length bytes.now }
     ensures entered { (pieces : List (List ℕ)) (rest : List ℕ)
-        → repeat_at loading.piece_at loading.behind header.count HEADER_LEN
+        → repeat_at loading.piece_at loading.offset_after header.count HEADER_LEN
         (drop HEADER_LEN bytes.now) ≡ Ok (pieces, rest)
-        → Gives (λ d. d.applied) result (loading.entered HEADER_LEN [] pieces) }
+        → Gives OutOfMemory (λ d. d.applied) result (loading.with_pieces HEADER_LEN [] pieces) }
     ensures id { IfOk result (λ d. d.id ≡ header.id) }
     ensures waiting { IfOk result (λ d. d.waiting ≡ []) }
 {
@@ -153,7 +155,7 @@ fn document_of<S: Sequence>(
 /// The refusals are judged in this order. `BadMagic`; from the start `Truncated` where a field, a change or the digest
 /// isn't whole, and `Damaged` at the offset of a length of 0 or past 4,194,304, or at that of the first byte after the
 /// digest. `BadDigest` where the digest isn't that of all before it. Then change by change `Damaged` at the offset of
-/// its length where its bytes are no change, and `Refused` where it can't enter behind those before it. `OutOfMemory`
+/// its length where its bytes are no change, and `Refused` where it can't enter after those before it. `OutOfMemory`
 /// only where a growth was refused.
 ///
 /// The layout and the digest are judged before anything is made, so no count or length asks for memory before the
@@ -164,7 +166,7 @@ pub fn load<S: Sequence>(alloc: Global, bytes: &[u8]) -> Result<Document<S>, Sto
     ensures waiting { IfOk result (λ d. d.waiting ≡ []) }
     ensures only { (id : Identifier) (C : List ChangeParts) → IsSaved bytes.now id C
         → IsDocument id C result }
-    ensures exact { Gives contents result (loading.loaded bytes.now) }
+    ensures exact { Gives OutOfMemory contents result (loading.document_of_bytes bytes.now) }
 {
     let outline = outline_of(bytes)?;
     if !has_digest(bytes, &outline.digest) {

@@ -3,6 +3,7 @@
 ghost use Rattle.std.specs.Prelude.{◌≡◌, ◌++◌, length, min, IfOk, OnOk, IsOkUnless};
 ghost use Rattle.std.specs.List.{flat_map};
 ghost use Rattle.sha2.specs.Sha256.{sha256};
+ghost use Rattle.tp_layout.specs.Spelling.{framed_change};
 ghost use Rattle.tp_store.specs.Saved as spelled;
 ghost use Rattle.tp_store.specs.declared.error.StoreError.TheVariants.{OutOfMemory};
 
@@ -18,7 +19,7 @@ use tp_rga::Sequence;
 /// What a saved file begins with.
 pub(crate) const MAGIC: [u8; 8] = *b"RGATEXT1";
 
-/// How many bytes stand before the first change: the magic, the identifier and the number of changes.
+/// How many bytes are before the first change: the magic, the identifier and the number of changes.
 pub(crate) const HEADER_LEN: usize = 28;
 
 /// How many bytes the digest has.
@@ -26,7 +27,7 @@ pub(crate) const DIGEST_LEN: usize = 32;
 
 // How many bytes the changes have with their lengths, or `usize::MAX`.
 fn entries_len(changes: &[Change]) -> usize
-    ensures { result ≡ min usize.MAX (length (flat_map spelled.entry changes.now)) }
+    ensures { result ≡ min usize.MAX (length (flat_map framed_change changes.now)) }
 {
     let mut total: usize = 0;
     for change in changes {
@@ -44,23 +45,23 @@ fn put_header(out: &mut Vec<u8>, id: DocId, count: u32) -> Result<(), AllocError
     out.extend_from_slice(&count.to_be_bytes())
 }
 
-// The bytes with those of a change and their length behind them.
+// The bytes with those of a change and their length after them.
 fn with_change(mut out: Vec<u8>, change: &Change) -> Result<Vec<u8>, StoreError>
-    ensures bytes { IfOk result (λ v. v.items ≡ out.items ++ spelled.entry change.now) }
+    ensures bytes { IfOk result (λ v. v.items ≡ out.items ++ framed_change change.now) }
     ensures err { IsOkUnless result OutOfMemory }
 {
     let _hash = change.hash();
     let len = change.encoded_len() as u32;
     out.extend_from_slice(&len.to_be_bytes())?;
-    match change.encode_behind(out) {
+    match change.encode_after(out) {
         Ok(out) => Ok(out),
         Err(_) => Err(StoreError::OutOfMemory),
     }
 }
 
-// The bytes with those of the changes and their lengths behind them.
+// The bytes with those of the changes and their lengths after them.
 fn with_changes(out: Vec<u8>, changes: &[Change]) -> Result<Vec<u8>, StoreError>
-    ensures bytes { IfOk result (λ v. v.items ≡ out.items ++ flat_map spelled.entry changes.now) }
+    ensures bytes { IfOk result (λ v. v.items ≡ out.items ++ flat_map framed_change changes.now) }
     ensures err { IsOkUnless result OutOfMemory }
 {
     let mut whole = out;

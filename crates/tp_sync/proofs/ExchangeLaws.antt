@@ -1,5 +1,5 @@
 -- What an exchange leaves, where nothing waited and nothing was left out or refused.
-use Rattle.tp_sync.proofs.Common.{◌≡◌, inl, inr, List, [], ◌++◌, false, Some, Option, refl, sym, ap, ◌∙◌, subst, append-nil, filter, Result, Ok, Err, IfOk, IfErr, IsSomeAnd, In, In-left, In-right, In-append, In-filter, neither_left, neither_right, Hash, ChangeParts, heads, Sound, SyncError, BadMessage, BadChange, OutOfMemory, SyncParts, declared, due_of, is_due, leaves_out, Stops, AllIn, SameMembers, GraphError, Known, HashesApart, Intake, OtherDocument, fresh, known_hashes, Exchanged, Exchanges, Passes, ReplyFails, side, SameMembers-trans, hashes_apart, heads_decide, Run, Ends, begin, intake, DocState, TooManyHeads, PendingFull, NotKept, IsOtherOnly, PassFails, RefusesKnownAlone, Side}
+use Rattle.tp_sync.proofs.Common.{◌≡◌, inl, inr, List, [], ◌++◌, false, Some, Option, refl, sym, ap, ◌∙◌, subst, append-nil, filter, Result, Ok, Err, IfOk, IfErr, IsSomeAnd, In, In-left, In-right, In-append, In-filter, neither_left, neither_right, Hash, ChangeParts, heads, Sound, SyncError, BadMessage, BadChange, OutOfMemory, SyncParts, declared_hashes, due_of, is_due, is_truncated, ExchangeStops, AllIn, SameMembers, GraphError, Known, HashesApart, Intake, OtherDocument, new_sync_state, known_hashes, Exchanged, Exchanges, PassesMessage, RefusesReply, side, SameMembers-trans, hashes_apart, heads_decide, SomeTurns, IsIntakeDone, begin, intake, DocState, TooManyHeads, PendingFull, NotKept, IsOtherOnly, RefusesPass, RefusesKnownAlone, Side}
 use Rattle.tp_opid.specs.declared.doc_id.DocId.{DocId}
 use Rattle.tp_receive.specs.declared.intake.Applied.{Applied}
 use Rattle.tp_receive.specs.declared.keeper.NoKeeper.{NoKeeper}
@@ -8,7 +8,7 @@ use Rattle.tp_receive.specs.Outcome.{ReceivesAlone, Stopped, keeps_nothing}
 use Rattle.tp_receive.proofs.ResultLaws.{results}
 use Rattle.tp_receive.proofs.RunLaws.{progress}
 use Rattle.tp_document.specs.Applying.{kept_by_none}
-use Rattle.tp_sync.specs.SyncError.{receiving}
+use Rattle.tp_sync.specs.Receiving.{receive_error_of}
 use Rattle.tp_sync.proofs.KnownLaws.{has_all-declared}
 use Rattle.tp_sync.proofs.TakeLaws.{all_carried}
 use Rattle.tp_sync.proofs.UnionLaws.{Arrived, Delivered, came_due, delivered, no_member, twins_of}
@@ -23,9 +23,9 @@ apart_within : (C : List ChangeParts) (F : List ChangeParts) → AllIn F C → H
 apart_within C F of apart c d i j e = apart c d (of c i) (of d j) e
 
 arrived : (D W K : List ChangeParts) (t : Intake NoKeeper) → Sound D → HashesApart K → W ≡ [] → is_full D W K ≡ false
-    → Run keeps_nothing (begin nobody D W K) t → Ends t → ((h : Hash) (e : GraphError) → In (h, e) t.refused → e ≡ Known) → Arrived keeps_nothing nobody D K t
+    → SomeTurns keeps_nothing (begin nobody D W K) t → IsIntakeDone t → ((h : Hash) (e : GraphError) → In (h, e) t.refused → e ≡ Known) → Arrived keeps_nothing nobody D K t
 arrived D W K t sound apart idle space run ends known =
-    let first : Run keeps_nothing (begin nobody D [] K) t = subst (λ V. Run keeps_nothing (begin nobody D V K) t) idle run in
+    let first : SomeTurns keeps_nothing (begin nobody D [] K) t = subst (λ V. SomeTurns keeps_nothing (begin nobody D V K) t) idle run in
     let room : is_full D [] K ≡ false = subst (λ V. is_full D V K ≡ false) idle space in
     record {
       progress = progress keeps_nothing nobody D [] K t first;
@@ -38,18 +38,18 @@ abbrev tells : List ChangeParts → List Hash
 tells C = heads C ++ known_hashes C
 
 -- Who received a message knows what its sender has.
-declares : (from : Side) (told : SyncParts) (to to' : Side) (r : Applied) → Passes from told to to' r → declared to'.state ≡ Some (tells from.document.applied)
-declares from told to to' r p =
+declares : (from : Side) (declared : SyncParts) (to to' : Side) (r : Applied) → PassesMessage from declared to to' r → declared_hashes to'.state ≡ Some (tells from.document.applied)
+declares from declared to to' r p =
     let C : List ChangeParts = from.document.applied in
-    ap declared p.hears ∙ ap (λ (hs : List Hash). Some (hs ++ p.message.known)) p.says.heads ∙ ap (λ (ks : List Hash). Some (heads C ++ ks)) p.says.known
+    ap declared_hashes p.hears ∙ ap (λ (hs : List Hash). Some (hs ++ p.message.known)) p.says.heads ∙ ap (λ (ks : List Hash). Some (heads C ++ ks)) p.says.known
 
 -- A message that leaves out nothing that is due, to a document that declared what it has and in which nothing waits,
 -- delivers the sender's changes.
-passed : (from : Side) (told : SyncParts) (to to' : Side) (r : Applied) → Passes from told to to' r → Sound from.document.applied → Sound to.document.applied
-    → HashesApart (to.document.applied ++ from.document.applied) → to.document.waiting ≡ [] → declared from.state ≡ Some (tells to.document.applied)
-    → leaves_out from.document.applied from.state ≡ false → RefusesKnownAlone r
+passed : (from : Side) (declared : SyncParts) (to to' : Side) (r : Applied) → PassesMessage from declared to to' r → Sound from.document.applied → Sound to.document.applied
+    → HashesApart (to.document.applied ++ from.document.applied) → to.document.waiting ≡ [] → declared_hashes from.state ≡ Some (tells to.document.applied)
+    → is_truncated from.document.applied from.state ≡ false → RefusesKnownAlone r
     → Delivered from.document.applied to.document.applied to'.document.applied to'.document.waiting
-passed from told to to' r p sound held apart idle theirs whole known =
+passed from declared to to' r p sound held apart idle theirs whole known =
     let C : List ChangeParts = from.document.applied in
     let D : List ChangeParts = to.document.applied in
     let H : List Hash = tells D in
@@ -60,10 +60,10 @@ passed from told to to' r p sound held apart idle theirs whole known =
     delivered keeps_nothing nobody C D F t sound apart mine (came_due C D H from.state.wants held (has_all-declared D) (twins_of D C apart))
     (arrived D to.document.waiting F t held (apart_within C F mine (hashes_apart C sound)) idle
     (subst (λ K. is_full D to.document.waiting K ≡ false) sends p.takes.space)
-    (subst (λ K. Run keeps_nothing (begin nobody D to.document.waiting K) t) sends p.takes.run) p.takes.ends known)
+    (subst (λ K. SomeTurns keeps_nothing (begin nobody D to.document.waiting K) t) sends p.takes.run) p.takes.ends known)
 
 -- The first message leaves the other as it is, where nothing waits there.
-begun_still : (D : List ChangeParts) (t : Intake NoKeeper) → Run keeps_nothing (begin nobody D [] []) t → (t.applied ≡ D) × (t.waiting ≡ [])
+begun_still : (D : List ChangeParts) (t : Intake NoKeeper) → SomeTurns keeps_nothing (begin nobody D [] []) t → (t.applied ≡ D) × (t.waiting ≡ [])
 begun_still D t run =
     let p = progress keeps_nothing nobody D [] [] t run in
     let none : p.new ≡ [] = no_member p.new (λ c i. p.grows.came c i) in (
@@ -102,23 +102,23 @@ one_set a b a' b' r sa sb apart ia ib x whole ka kb =
     let A : List ChangeParts = a.applied in
     let B : List ChangeParts = b.applied in
     let begun : Intake NoKeeper = intake nobody x.asked.document.applied x.asked.document.waiting [] x.begun.applied.items x.begun.refused.items in
-    let run : Run keeps_nothing (begin nobody B b.waiting x.first.message.changes) begun = x.first.takes.run in
+    let run : SomeTurns keeps_nothing (begin nobody B b.waiting x.first.message.changes) begun = x.first.takes.run in
     let none_sent : x.first.message.changes ≡ [] = x.first.says.changes in
-    let still = begun_still B begun (subst (λ K. Run keeps_nothing (begin nobody B [] K) begun) none_sent (subst (λ W. Run keeps_nothing (begin nobody B W x.first.message.changes) begun) ib run)) in
+    let still = begun_still B begun (subst (λ K. SomeTurns keeps_nothing (begin nobody B [] K) begun) none_sent (subst (λ W. SomeTurns keeps_nothing (begin nobody B W x.first.message.changes) begun) ib run)) in
     let B_is : x.asked.document.applied ≡ B = still.0 in
     let sasked : Sound x.asked.document.applied = subst Sound (sym B_is) sb in
-    let to_a : declared x.asked.state ≡ Some (tells A) = declares (side a fresh) x.told (side b fresh) x.asked x.begun x.first in
+    let to_a : declared_hashes x.asked.state ≡ Some (tells A) = declares (side a new_sync_state) x.declared (side b new_sync_state) x.asked x.begun x.first in
     let lefts = sym whole ∙ x.replies.left_out in
-    let second = passed x.asked x.replies.answered (side a x.told) (side a' x.replies.knows) r.into_a x.replies.second sasked sa (subst (λ l. HashesApart (A ++ l)) (sym B_is) apart) ia to_a
-    (neither_left (leaves_out x.asked.document.applied x.asked.state) (leaves_out a'.applied x.replies.knows) (sym lefts)) ka in
+    let second = passed x.asked x.replies.answered (side a x.declared) (side a' x.replies.knows) r.into_a x.replies.second sasked sa (subst (λ l. HashesApart (A ++ l)) (sym B_is) apart) ia to_a
+    (neither_left (is_truncated x.asked.document.applied x.asked.state) (is_truncated a'.applied x.replies.knows) (sym lefts)) ka in
     let here : SameMembers a'.applied (A ++ B) = subst (λ l. SameMembers a'.applied (A ++ l)) B_is second.members in
     let to_b : x.replies.knows.theirs ≡ Some (heads x.asked.document.applied) = ap (λ (s : SyncParts). s.theirs) x.replies.second.hears ∙ ap Some x.replies.second.says.heads in
-    let told_b : declared x.replies.knows ≡ Some (tells x.asked.document.applied) = declares x.asked x.replies.answered (side a x.told) (side a' x.replies.knows) r.into_a x.replies.second in
+    let declared_b : declared_hashes x.replies.knows ≡ Some (tells x.asked.document.applied) = declares x.asked x.replies.answered (side a x.declared) (side a' x.replies.knows) r.into_a x.replies.second in
     let apart_b : HashesApart (x.asked.document.applied ++ a'.applied) = subst (λ l. HashesApart (l ++ a'.applied)) (sym B_is) (apart_of A B a'.applied apart here) in
     let there : SameMembers b'.applied (x.asked.document.applied ++ a'.applied) = elim x.replies.third [
       | inl p ↦
-          (passed (side a' x.replies.knows) p.0 (side x.asked.document x.replies.answered) (side b' x.replies.ends) r.into_b p.1 second.sound sasked apart_b still.1 told_b
-          (neither_right (leaves_out x.asked.document.applied x.asked.state) (leaves_out a'.applied x.replies.knows) (sym lefts)) kb).members
+          (passed (side a' x.replies.knows) p.0 (side x.asked.document x.replies.answered) (side b' x.replies.ends) r.into_b p.1 second.sound sasked apart_b still.1 declared_b
+          (neither_right (is_truncated x.asked.document.applied x.asked.state) (is_truncated a'.applied x.replies.knows) (sym lefts)) kb).members
       | inr q ↦
           let heads_are : heads x.asked.document.applied ≡ heads a'.applied = some_is _ _ (sym to_b ∙ q.quiet.even.theirs) in
           let same = heads_of_same a'.applied x.asked.document.applied second.sound sasked apart_b (sym heads_are) in
@@ -144,23 +144,23 @@ pub if_err : {T E : Type 0} (P Q : E → Type 0) (r : Result T E) → ((e : E) �
 if_err P Q (Ok x) f h = h
 if_err P Q (Err e) f h = f e h
 
-pass_not_other : (from : Side) (to to' : DocState) (e : SyncError) → PassFails from to to' e → e ≡ OtherDocument → ⊥
+pass_not_other : (from : Side) (to to' : DocState) (e : SyncError) → RefusesPass from to e to' → e ≡ OtherDocument → ⊥
 pass_not_other from to to' e (inl w) o = elim w.0 [
   | inl x ↦ let no : TooManyHeads ≡ OtherDocument = sym x.0 ∙ o in cc
   | inr x ↦ let no : OutOfMemory ≡ OtherDocument = sym x ∙ o in cc
 ]
 pass_not_other from to to' e (inr w) o =
-    let no : IsSomeAnd (receiving OtherDocument) (λ why. ReceivesAlone (kept_by_none to) w.0.changes (kept_by_none to') (Stopped why)) =
-    subst (λ (x : SyncError). IsSomeAnd (receiving x) (λ why. ReceivesAlone (kept_by_none to) w.0.changes (kept_by_none to') (Stopped why))) o w.3 in
+    let no : IsSomeAnd (receive_error_of OtherDocument) (λ why. ReceivesAlone (kept_by_none to) w.0.changes (kept_by_none to') (Stopped why)) =
+    subst (λ (x : SyncError). IsSomeAnd (receive_error_of x) (λ why. ReceivesAlone (kept_by_none to) w.0.changes (kept_by_none to') (Stopped why))) o w.3 in
     no
 
-reply_not_other : (a b : Side) (a' b' : DocState) (e : SyncError) → ReplyFails a b a' b' e → e ≡ OtherDocument → ⊥
+reply_not_other : (a b : Side) (a' b' : DocState) (e : SyncError) → RefusesReply a b e a' b' → e ≡ OtherDocument → ⊥
 reply_not_other a b a' b' e (inl w) o = pass_not_other b a.document a' e w.1 o
 reply_not_other a b a' b' e (inr w) o = pass_not_other (side a' w.knows) b.document b' e w.fails o
 
-pub stops_not_other : (a b a' b' : DocState) (e : SyncError) → Stops a b a' b' e → e ≡ OtherDocument → ⊥
-stops_not_other a b a' b' e (inl w) o = pass_not_other (side a fresh) b b' e w.1 o
-stops_not_other a b a' b' e (inr w) o = reply_not_other (side a w.told) w.asked a' b' e w.fails o
+pub stops_not_other : (a b a' b' : DocState) (e : SyncError) → ExchangeStops a b a' b' e → e ≡ OtherDocument → ⊥
+stops_not_other a b a' b' e (inl w) o = pass_not_other (side a new_sync_state) b b' e w.1 o
+stops_not_other a b a' b' e (inr w) o = reply_not_other (side a w.declared) w.asked a' b' e w.fails o
 
 pub only_other : {T : Type 0} (r : Result T SyncError) (a b : DocId) → a ≡ b → IfErr r (λ e. e ≡ OtherDocument → ⊥) → IsOtherOnly r a b
 only_other (Ok x) a b e h = e

@@ -55,7 +55,7 @@ power_at C k h i =
     let n = 2 ^ k in
     let front : List Hash = map hash_of (take 1 (drop (length C - n) C)) in
     elim (nat_le n (length C)) as (λ b. nat_le n (length C) ≡ b → In h (cond b front []) → IsPowerBeforeEnd C h) [
-      | true ↦ λ e j. let w = first_at C (length C - n) h j in record { k = k; change = w.0; within = leb-true n (length C) e; stands = w.1; hash = w.2 }
+      | true ↦ λ e j. let w = first_at C (length C - n) h j in record { k = k; change = w.0; within = leb-true n (length C) e; present = w.1; hash = w.2 }
       | false ↦ λ e j. absurd j
     ] refl i
 
@@ -67,7 +67,7 @@ powers_at C (suc k) h i = elim (In-append h (before_end C (2 ^ k)) (powers_befor
 ]
 
 powers-In : (C : List ChangeParts) (n : ℕ) (h : Hash) → In h (powers_before_end C n) → has C h ≡ true
-powers-In C n h i = let w = powers_at C n h i in In-has C w.change h (In-slice_get C (length C - 2 ^ w.k) w.change w.stands) w.hash
+powers-In C n h i = let w = powers_at C n h i in In-has C w.change h (In-slice_get C (length C - 2 ^ w.k) w.change w.present) w.hash
 
 -- what is declared is there
 pub has_all-declared : (C : List ChangeParts) → has_all C (heads C ++ known_hashes C) ≡ true
@@ -110,7 +110,7 @@ pub known_are : (C : List ChangeParts) (h : Hash) → length C ≤ most_changes 
 known_are C h few = (
   λ i. powers_at C 32 h (rising-In hash_cmp h (powers_before_end C 32) i),
   λ w. In-rising hash_cmp hash_exact h (powers_before_end C 32)
-      (subst (λ g. In g (powers_before_end C 32)) w.hash (In-powers C 32 w.k w.change (below_32 w.k (length C) few w.within) w.within w.stands)),
+      (subst (λ g. In g (powers_before_end C 32)) w.hash (In-powers C 32 w.k w.change (below_32 w.k (length C) few w.within) w.within w.present)),
 )
 
 -- a change that is there is put to those before
@@ -121,7 +121,7 @@ known_there C k back c old new power within at before made =
     let step : powers_before_end C (k + 1) ≡ hash_of c ∷ powers_before_end C k = ap (powers_before_end C) (add-one k) ∙ ap (λ l. l ++ powers_before_end C k) (ap (before_end C) (sym power) ∙ one) in
     made ∙ ap (put hash_cmp (hash_of c)) before ∙ sym (ap (rising hash_cmp) step)
 
--- where there aren't so many changes, those before are all
+-- where there are fewer changes than that, those before are all
 pub known_past : (C : List ChangeParts) (k back : ℕ) (old : List Hash) → back ≡ 2 ^ k → length C < back
     → old ≡ rising hash_cmp (powers_before_end C k) → old ≡ rising hash_cmp (powers_before_end C (k + 1))
 known_past C k back old power past before =

@@ -8,12 +8,4 @@ pub mod WantLaws
 pub mod KnownLaws
 pub mod UnionLaws
 pub mod ExchangeLaws
-pub mod MessageFields
-pub mod WholeMessage
-pub mod FaultLaws
-pub mod ShortLaws
-pub mod StepLaws
-pub mod SizeLaws
-pub mod JudgeLaws
-pub mod ReaderLaws
 pub mod NextLaws

@@ -1,5 +1,5 @@
 -- What a message carries, by marks of the changes that are due.
-use Rattle.tp_sync.proofs.Common.{◌≡◌, ◌<◌, ◌≤◌, ◌↔◌, inl, inr, ℕ, List, [], ◌∷◌, ◌++◌, length, length-append, Bool, true, false, ◌||◌, ◌&&◌, not, cond, Some, drop, take, map, filter, refl, sym, ap, ◌∙◌, subst, nat_lt, arith, list_any, nat_tests, In, filter-In, In-left, truth, never, not_true, or_left, or_right, Hash, ChangeParts, hash_of, names, has, heads, past, pick, marks_since, Sound, In-has, SyncParts, declared, begins_at, carried, due, due_from, due_of, is_any, is_due, leaves_out, take_due, option_map, has-In, length-map, neither, names-In, In-names, deps_first, past-heads, past-more, begins_again}
+use Rattle.tp_sync.proofs.Common.{◌≡◌, ◌<◌, ◌≤◌, ◌↔◌, inl, inr, ℕ, List, [], ◌∷◌, ◌++◌, length, length-append, Bool, true, false, ◌||◌, ◌&&◌, not, cond, Some, drop, take, map, filter, refl, sym, ap, ◌∙◌, subst, nat_lt, arith, list_any, nat_tests, In, filter-In, In-left, truth, never, not_true, or_left, or_right, Hash, ChangeParts, hash_of, names, has, heads, past, pick, marks_since, Sound, In-has, SyncParts, declared_hashes, begins_at, message_changes, due, due_from, due_of, is_any, is_due, is_truncated, take_due, option_map, has-In, length-map, neither, names-In, In-names, deps_first, past-heads, past-more, starts_over}
 use Rattle.tp_sync.proofs.MarkLaws.{marks_are_due, any-drop, any-take, pick-drop}
 use Rattle.tp_sync.proofs.TakeLaws.{carried_within, due_parts, piece}
 
@@ -10,13 +10,13 @@ pub record AreMarks (C : List ChangeParts) (s : SyncParts) (marks : List Bool) :
   pub long : length marks ≡ length C
   pub any : (n : ℕ) → list_any (λ (b : Bool). b) (drop n marks) ≡ is_any (due_from C s n)
   pub picks : (n : ℕ) → pick (drop n marks) (drop n C) ≡ due_from C s n
-  pub front : (n : ℕ) → list_any (λ (b : Bool). b) (take n marks) ≡ is_any (due_of C (declared s) s.wants (take n C))
+  pub front : (n : ℕ) → list_any (λ (b : Bool). b) (take n marks) ≡ is_any (due_of C (declared_hashes s) s.wants (take n C))
 
-pub are_marks : (C : List ChangeParts) (theirs : List Hash) (s : SyncParts) (marks : List Bool) → Sound C → declared s ≡ Some theirs → marks ≡ marks_since C theirs s.wants → AreMarks C s marks
+pub are_marks : (C : List ChangeParts) (theirs : List Hash) (s : SyncParts) (marks : List Bool) → Sound C → declared_hashes s ≡ Some theirs → marks ≡ marks_since C theirs s.wants → AreMarks C s marks
 are_marks C theirs s marks sound e m =
     let f : ChangeParts → Bool = is_due C theirs s.wants in
     let are : marks ≡ map f C = m ∙ marks_are_due C theirs s.wants sound in
-    let by : (D : List ChangeParts) → filter f D ≡ due_of C (declared s) s.wants D = λ D. ap (λ o. due_of C o s.wants D) (sym e) in
+    let by : (D : List ChangeParts) → filter f D ≡ due_of C (declared_hashes s) s.wants D = λ D. ap (λ o. due_of C o s.wants D) (sym e) in
     record {
       long = ap length are ∙ length-map C f;
       any = λ n. ap (λ l. list_any (λ (b : Bool). b) (drop n l)) are ∙ any-drop f C n ∙ ap is_any (by (drop n C));
@@ -28,7 +28,7 @@ pub begins_by : (C : List ChangeParts) (s : SyncParts) (marks : List Bool) (goes
 begins_by C s marks goes_on from w g f = f ∙ ap (λ b. cond b s.next 0) (g ∙ w.any s.next)
 
 pub carried_by : (C : List ChangeParts) (s : SyncParts) (marks : List Bool) (from : ℕ) (changes : List ChangeParts) → AreMarks C s marks → from ≡ begins_at C s
-    → changes ≡ take_due 0 0 (pick (drop from marks) (drop from C)) → changes ≡ carried C s
+    → changes ≡ take_due 0 0 (pick (drop from marks) (drop from C)) → changes ≡ message_changes C s
 carried_by C s marks from changes w f e = e ∙ ap (take_due 0 0) (w.picks from) ∙ ap (λ n. take_due 0 0 (due_from C s n)) f
 
 some_counts : (D : List ChangeParts) (n : ℕ) → n ≡ length D → nat_lt 0 n ≡ is_any D
@@ -36,8 +36,8 @@ some_counts [] n e = rw e refl
 some_counts (c ∷ D) n e = let more : 0 < n = omega arith in grind (arith, nat_tests)
 
 -- Where nothing is due from the next place on, something is carried where something is due.
-carries_some : (C : List ChangeParts) (s : SyncParts) (on : Bool) → is_any (due_from C s s.next) ≡ on → (is_any (carried C s) && not on) ≡ (is_any (due C s) && not on)
-carries_some C s true e = no (is_any (carried C s)) (is_any (due C s)) where
+carries_some : (C : List ChangeParts) (s : SyncParts) (on : Bool) → is_any (due_from C s s.next) ≡ on → (is_any (message_changes C s) && not on) ≡ (is_any (due C s) && not on)
+carries_some C s true e = no (is_any (message_changes C s)) (is_any (due C s)) where
   no : (a b : Bool) → (a && false) ≡ (b && false)
   no true true = refl
   no true false = refl
@@ -61,36 +61,36 @@ counted (c ∷ F) D n le =
     yes ∙ sym (or_right (nat_lt n (length D)) true refl)
 
 -- Due changes are left out where one is from where the message began, or one before.
-pub left_out_by : (C : List ChangeParts) (s : SyncParts) (marks : List Bool) (from count : ℕ) (left : Bool) → AreMarks C s marks → from ≡ begins_at C s → count ≡ length (carried C s)
-    → left ≡ nat_lt count (length (pick (drop from marks) (drop from C))) → leaves_out C s ≡ (left || list_any (λ (b : Bool). b) (take from marks))
+pub left_out_by : (C : List ChangeParts) (s : SyncParts) (marks : List Bool) (from count : ℕ) (left : Bool) → AreMarks C s marks → from ≡ begins_at C s → count ≡ length (message_changes C s)
+    → left ≡ nat_lt count (length (pick (drop from marks) (drop from C))) → is_truncated C s ≡ (left || list_any (λ (b : Bool). b) (take from marks))
 left_out_by C s marks from count left w f n l =
-    let F : List ChangeParts = due_of C (declared s) s.wants (take from C) in
+    let F : List ChangeParts = due_of C (declared_hashes s) s.wants (take from C) in
     let D : List ChangeParts = due_from C s from in
-    let few : length (carried C s) ≤ length D = subst (λ (m : ℕ). length (carried C s) ≤ length (due_from C s m)) (sym f) (carried_within C s) in
-    let is : left ≡ nat_lt (length (carried C s)) (length D) = l ∙ ap (λ m. nat_lt m (length (pick (drop from marks) (drop from C)))) n ∙ ap (λ E. nat_lt (length (carried C s)) (length E)) (w.picks from) in
-    ap (λ E. nat_lt (length (carried C s)) (length E)) (due_parts C s from)
-    ∙ counted F D (length (carried C s)) few
+    let few : length (message_changes C s) ≤ length D = subst (λ (m : ℕ). length (message_changes C s) ≤ length (due_from C s m)) (sym f) (carried_within C s) in
+    let is : left ≡ nat_lt (length (message_changes C s)) (length D) = l ∙ ap (λ m. nat_lt m (length (pick (drop from marks) (drop from C)))) n ∙ ap (λ E. nat_lt (length (message_changes C s)) (length E)) (w.picks from) in
+    ap (λ E. nat_lt (length (message_changes C s)) (length E)) (due_parts C s from)
+    ∙ counted F D (length (message_changes C s)) few
     ∙ ap (λ b. b || is_any F) (sym is)
     ∙ ap (λ b. left || b) (sym (w.front from))
 
 pub again_by : (C : List ChangeParts) (s : SyncParts) (marks : List Bool) (goes_on : Bool) (count : ℕ) → AreMarks C s marks → goes_on ≡ list_any (λ (b : Bool). b) (drop s.next marks)
-    → count ≡ length (carried C s) → (nat_lt 0 count && not goes_on) ≡ begins_again C s
+    → count ≡ length (message_changes C s) → (nat_lt 0 count && not goes_on) ≡ starts_over C s
 again_by C s marks goes_on count w g n =
-    ap (λ b. nat_lt 0 count && not b) (g ∙ w.any s.next) ∙ ap (λ b. b && not (is_any (due_from C s s.next))) (some_counts (carried C s) count n)
+    ap (λ b. nat_lt 0 count && not b) (g ∙ w.any s.next) ∙ ap (λ b. b && not (is_any (due_from C s s.next))) (some_counts (message_changes C s) count n)
     ∙ carries_some C s (is_any (due_from C s s.next)) refl
 
 -- ---- where nothing is due
 
 -- What a message carries then: nothing.
 pub record CarriesNone (C : List ChangeParts) (s : SyncParts) : Type 0 where
-  pub none : [] ≡ carried C s
-  pub again : false ≡ begins_again C s
-  pub whole : false ≡ leaves_out C s
+  pub none : [] ≡ message_changes C s
+  pub again : false ≡ starts_over C s
+  pub whole : false ≡ is_truncated C s
 
 pub carries_none : (C : List ChangeParts) (s : SyncParts) → due C s ≡ [] → CarriesNone C s
 carries_none C s e =
     let p = piece C s in
-    let no : carried C s ≡ [] = inner p.before (carried C s) p.behind (sym p.joined ∙ e) in
+    let no : message_changes C s ≡ [] = inner p.before (message_changes C s) p.beyond (sym p.joined ∙ e) in
     record {
       none = sym no;
       again = sym (ap (λ l. is_any l && not (is_any (due_from C s s.next))) e);

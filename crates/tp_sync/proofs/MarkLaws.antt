@@ -1,9 +1,8 @@
 -- Marks of the changes that are due.
-use Rattle.tp_sync.proofs.Common.{◌≡◌, ℕ, List, [], ◌∷◌, Bool, true, false, ◌||◌, not, cond, map, filter, drop, take, refl, sym, ap, ◌∙◌, inl, inr, list_any, In, never, not_true, Hash, ChangeParts, hash_of, names, has, past, pick, marks_since, Sound, In-has, is_due, is_any, drop-map, same_hash-same, same_hash-itself, is_needed, marks, marked_more, lacks-fewer, past-In}
-use Rattle.std.proofs.lemmas.List.{take-map}
+use Rattle.tp_sync.proofs.Common.{◌≡◌, ℕ, List, [], ◌∷◌, Bool, true, false, ◌||◌, not, cond, map, filter, drop, take, refl, sym, ap, ◌∙◌, inl, inr, list_any, In, never, not_true, Hash, ChangeParts, hash_of, names, has, past, pick, marks_since, Sound, In-has, is_due, is_any, drop-map, same_hash-same, same_hash-itself, is_needed, marks, marked_more, lacks-fewer, past-In, take-map}
 use Rattle.tp_opid.specs.Same.{same_hash}
-use Rattle.tp_graph.specs.GraphState.{HashesOnce}
-use Rattle.tp_graph.proofs.MarksLaws.{hashes_once}
+use Rattle.tp_history.specs.Named.{HashesOnce}
+use Rattle.tp_history.proofs.MarksLaws.{hashes_once}
 
 -- ---- a past, by the hashes of its changes
 

@@ -1,10 +1,6 @@
--- Laws of marks of which the next is looked for.
-use Rattle.tp_sync.proofs.Common.{◌≡◌, ◌<◌, ◌≤◌, ℕ, suc, zero, inl, inr, List, [], ◌∷◌, length, length-append, Bool, true, false, cond, drop, take, get_or, min, refl, sym, ap, ◌∙◌, arith, list_any, nat_lt, nat_tests, or_left, or_right, neither, ◌++◌, append-nil, ChangeParts, is_any, pick, take_due}
-use Rattle.std.proofs.lemmas.List.{get_or_past}
-use Rattle.std.proofs.lemmas.Bool.{cases_lt}
-use Rattle.tp_graph.specs.Outside.{IsNext, IsNextBefore}
+-- Laws of looking for the next mark.
+use Rattle.tp_sync.proofs.Common.{◌≡◌, ◌<◌, ◌≤◌, ℕ, suc, zero, inl, inr, List, [], ◌∷◌, length, length-append, Bool, true, false, cond, drop, take, get_or, min, refl, sym, ap, ◌∙◌, arith, list_any, nat_lt, nat_tests, or_left, or_right, neither, ◌++◌, append-nil, ChangeParts, is_any, pick, take_due, get_or_past, cases_lt, IsNext, IsNextBefore, IsStretch}
 use Rattle.tp_sync.proofs.TakeLaws.{TakesOn, some_picked}
-use Rattle.tp_sync.specs.Due.{IsStretch}
 
 none_picked : (bs : List Bool) (C : List ChangeParts) (n : ℕ) → length bs ≡ length C → ((k : ℕ) → k < n → get_or bs k false ≡ false) → pick (drop n bs) (drop n C) ≡ pick bs C
 none_picked bs C zero l f = refl
@@ -45,7 +41,7 @@ none_there (b ∷ bs) (suc from) f = none_there bs from (λ k at near. f (suc k)
 
 -- one is marked from a place on where the next isn't after all
 pub next_is_there : (bs : List Bool) (from place : ℕ) → place < length bs → IsNext bs from place → true ≡ list_any (λ (b : Bool). b) (drop from bs)
-next_is_there bs from place small next = sym (any_there bs from place next.behind small (next.at small))
+next_is_there bs from place small next = sym (any_there bs from place next.beyond small (next.at small))
 
 -- and none where it is
 pub next_is_none : (bs : List Bool) (from place : ℕ) → length bs ≤ place → IsNext bs from place → false ≡ list_any (λ (b : Bool). b) (drop from bs)
@@ -80,7 +76,7 @@ pub goes_on : (bs : List Bool) (next first len : ℕ) → len ≡ length bs → 
 goes_on bs next first len l small n = record {
   on = next_is_there bs next first (omega (arith, l, small)) n;
   from = refl;
-  first = record { behind = n.behind; none = n.none; at = λ near. n.at (omega (arith, l, near)) };
+  first = record { beyond = n.beyond; none = n.none; at = λ near. n.at (omega (arith, l, near)) };
   end = omega (arith, l);
   none = λ k past. get_or_past bs k false (omega (arith, l, past));
 }
@@ -94,7 +90,7 @@ begins_anew bs next place first end len l past n e before = record {
   end = omega (arith, l, e);
   none = λ k at. elim (cases_lt k len) [
     | inl small ↦ n.none k (omega (arith, at, e, small)) (omega (arith, small, past))
-    | inr behind ↦ get_or_past bs k false (omega (arith, l, behind))
+    | inr beyond ↦ get_or_past bs k false (omega (arith, l, beyond))
   ];
 }
 
@@ -122,7 +118,7 @@ pub record Goes (C : List ChangeParts) (marks : List Bool) (from old end place :
 pub over : (C : List ChangeParts) (marks : List Bool) (from old end before place : ℕ) (changes : List ChangeParts) (bytes next : ℕ) → length marks ≡ length C → IsNextBefore marks before end place
     → TakesOn C marks from old before changes bytes next → Goes C marks from old end place changes bytes next
 over C marks from old end before place changes bytes next l n w =
-    let same : pick (drop place marks) (drop place C) ≡ pick (drop before marks) (drop before C) = picked_over marks C before place l n.behind n.none in
+    let same : pick (drop place marks) (drop place C) ≡ pick (drop before marks) (drop before C) = picked_over marks C before place l n.beyond n.none in
     record {
       takes = record {
         all = ap (λ d. changes ++ d) same ∙ w.all;
@@ -144,13 +140,13 @@ ended C marks from old end place changes bytes next l none past w =
 
 -- ---- whether one is left
 
--- what is behind a part tells whether that is all
-left_behind : (changes rest all : List ChangeParts) → changes ++ rest ≡ all → is_any rest ≡ nat_lt (length changes) (length all)
-left_behind changes [] all e =
+-- what is after a part shows whether that is all
+left_after : (changes rest all : List ChangeParts) → changes ++ rest ≡ all → is_any rest ≡ nat_lt (length changes) (length all)
+left_after changes [] all e =
     let few : length all ≤ length changes = let same = sym (ap length e) ∙ length-append changes [] in omega (arith, same) in
     let no : nat_lt (length changes) (length all) ≡ false = grind (arith, nat_tests) in
     sym no
-left_behind changes (c ∷ rest) all e =
+left_after changes (c ∷ rest) all e =
     let more : length changes < length all = let same = sym (ap length e) ∙ length-append changes (c ∷ rest) in omega (arith, same) in
     let yes : nat_lt (length changes) (length all) ≡ true = grind (arith, nat_tests) in
     sym yes
@@ -159,10 +155,10 @@ pub one_is_left : (C : List ChangeParts) (marks : List Bool) (from old end place
     → Goes C marks from old end place changes bytes next → true ≡ nat_lt (length changes) (length (pick (drop from marks) (drop from C)))
 one_is_left C marks from old end place changes bytes next l most small w =
     sym (some_picked marks C place l (omega (arith, small, most, l)) (w.at small))
-    ∙ left_behind changes (pick (drop place marks) (drop place C)) (pick (drop from marks) (drop from C)) w.takes.all
+    ∙ left_after changes (pick (drop place marks) (drop place C)) (pick (drop from marks) (drop from C)) w.takes.all
 
 pub none_is_left : (C : List ChangeParts) (marks : List Bool) (from old end place : ℕ) (changes : List ChangeParts) (bytes next : ℕ) → length marks ≡ length C → ((k : ℕ) → end ≤ k → get_or marks k false ≡ false) → end ≤ place
     → TakesOn C marks from old place changes bytes next → false ≡ nat_lt (length changes) (length (pick (drop from marks) (drop from C)))
 none_is_left C marks from old end place changes bytes next l none past w =
     sym (ap is_any (none_left marks C place l (λ k at. none k (omega (arith, at, past)))))
-    ∙ left_behind changes (pick (drop place marks) (drop place C)) (pick (drop from marks) (drop from C)) w.all
+    ∙ left_after changes (pick (drop place marks) (drop place C)) (pick (drop from marks) (drop from C)) w.all

@@ -1,10 +1,10 @@
 -- What a message says that is to be made.
 use Rattle.tp_sync.proofs.Common.{◌≡◌, ◌∙◌, ◌≤◌, List, length, map, Some, ap, sym, subst, In, IsRising, Hash, hash_cmp, ChangeParts, AllChanges, MAX_CHANGES, MAX_HASHES, MAX_KNOWN, heads_rise, MessageParts, SyncParts}
-use Rattle.tp_sync.specs.Answer.{Says}
+use Rattle.tp_sync.specs.NextMessage.{SendsMessage}
 use Rattle.tp_sync.specs.Saying.{IsToSay}
 use Rattle.tp_sync.specs.declared.generating.Saying.{Saying}
 use Rattle.tp_sync.proofs.KnownLaws.{known_few, known_rises}
-use Rattle.tp_sync.proofs.TakeLaws.{carried-In, carried_few}
+use Rattle.tp_sync.proofs.TakeLaws.{message_changes-In, carried_few}
 use Rattle.tp_sync.proofs.WantLaws.{wanted_few, wanted_rises}
 
 -- its heads, what it wants and what it knows are within the limits
@@ -30,13 +30,13 @@ known_fit C W s y H say e = (
 -- and so are the changes that it carries
 pub changes_fit : (C W : List ChangeParts) (s : SyncParts) (y : Saying) (D : List ChangeParts) → AllChanges C → IsToSay C W s y → D ≡ map (λ c. c.now) y.load.changes.items → AllChanges D × (length D ≤ MAX_CHANGES)
 changes_fit C W s y D limits say e = (
-  λ d i. limits d (carried-In C s d (subst (In d) (e ∙ say.changes) i)),
+  λ d i. limits d (message_changes-In C s d (subst (In d) (e ∙ say.changes) i)),
   subst (λ (l : List ChangeParts). length l ≤ MAX_CHANGES) (sym (e ∙ say.changes)) (carried_few C s),
 )
 
 -- a message of its parts is what is answered
 pub says_it : (C W : List ChangeParts) (s : SyncParts) (y : Saying) (m : MessageParts) (t : SyncParts) → IsToSay C W s y → m.version ≡ 2 → m.heads ≡ y.heads.items → m.wants ≡ y.wants.items → m.known ≡ y.known.items
-    → m.changes ≡ map (λ c. c.now) y.load.changes.items → t ≡ record s { told = Some y.heads.items; next = y.load.next; again = y.load.again } → Says C W s m t
+    → m.changes ≡ map (λ c. c.now) y.load.changes.items → t ≡ record s { declared = Some y.heads.items; next = y.load.next; again = y.load.again } → SendsMessage C W s m t
 says_it C W s y m t say version heads wants known changes left = record {
   loud = say.loud;
   version = version;
@@ -47,7 +47,7 @@ says_it C W s y m t say version heads wants known changes left = record {
   theirs = ap (λ (u : SyncParts). u.theirs) left;
   their_wants = ap (λ (u : SyncParts). u.wants) left;
   their_known = ap (λ (u : SyncParts). u.known) left;
-  told = ap (λ (u : SyncParts). u.told) left ∙ ap Some say.heads;
+  declared = ap (λ (u : SyncParts). u.declared) left ∙ ap Some say.heads;
   next = rw left say.next;
   again = ap (λ (u : SyncParts). u.again) left ∙ say.again;
 }

@@ -1,8 +1,8 @@
 -- Why an exchange leaves both documents with the union of what they had.
 use Rattle.tp_sync.proofs.Common.{◌≡◌, ◌⊎◌, inl, inr, List, [], ◌∷◌, ◌++◌, Bool, true, false, not, Some, None, Option, length, ◌==◌, refl, sym, ap, ◌∙◌, subst, append_assoc, filter, In, In-left, In-right, In-append, filter-In, truth, never, neither_right, Hash, ChangeParts, hash_of, names, has, has_all, past, Sound, In-has, is_due, AllIn, SameMembers, GraphError, Known, HashesApart, most_changes, has-In, has_all-In, In-has_all, Intake, defect, or_full, has-left, Fits-at, deps_there, NoTwins, chain_over}
-use Rattle.tp_graph.specs.Fit.{cause}
-use Rattle.tp_graph.proofs.CauseLaws.{known_is}
-use Rattle.tp_graph.proofs.ReachLaws.{InPast-from_past}
+use Rattle.tp_history.specs.Fit.{cause}
+use Rattle.tp_history.proofs.CauseLaws.{known_is}
+use Rattle.tp_history.proofs.ReachLaws.{InPast-from_past}
 use Rattle.tp_receive.specs.Receiving.{hashes}
 use Rattle.tp_receive.specs.Replies.{Progress, Results}
 use Rattle.tp_receive.proofs.CausesLaws.{waits_for}
@@ -43,7 +43,7 @@ In-hashes (c ∷ C) h i = elim i [
   In-has-later : (c : ChangeParts) (C : List ChangeParts) (h : Hash) → has C h ≡ true → has (c ∷ C) h ≡ true
   In-has-later c C h e = let w = has-In C h e in In-has (c ∷ C) w.0 h (inr w.1) w.2
 
--- What a whole run did that received K behind D, where nothing waited and nothing was refused but what was known.
+-- What a whole run did that received K after D, where nothing waited and nothing was refused but what was known.
 pub record Arrived {S : Type 0} (keeps : S → ChangeParts → S → Type 0) (k : S) (D K : List ChangeParts) (t : Intake S) : Type 0 where
   pub progress : Progress keeps k D K t
   pub results : Results D [] K t

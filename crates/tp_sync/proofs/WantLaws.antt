@@ -1,5 +1,5 @@
 -- Laws of what is wanted.
-use Rattle.tp_sync.proofs.Common.{◌≡◌, ◌<◌, ◌≤◌, ◌↔◌, inl, inr, ℕ, zero, suc, ◌+◌, List, [], ◌∷◌, ◌++◌, length, Bool, true, false, ◌||◌, not, Option, take, drop, get_or, filter, refl, sym, ap, ◌∙◌, subst, append_assoc, add-one, drop-cons, min, arith, flat_map, take-append-drop, In, IsBelowAll, IsRising, put, rising, In-append, In-left, In-right, In-filter, filter-In, never, or_cases, or_left, Hash, hash_cmp, ChangeParts, has, MAX_HASHES, insert, Less, Equal, Greater, put_at, rising-In, In-rising, rising-rises, or_right, hash_total, hash_exact, HasPut, is_absent, length-take, take_more, In-middle, below-In, put-In, In-put, In-put_other, put-rises, one_list, among, is_wanted, IsMissing, among-In, In-among, heard_of, wanted}
+use Rattle.tp_sync.proofs.Common.{◌≡◌, ◌<◌, ◌≤◌, ◌↔◌, inl, inr, ℕ, zero, suc, ◌+◌, List, [], ◌∷◌, ◌++◌, length, Bool, true, false, ◌||◌, not, Option, take, drop, get_or, filter, refl, sym, ap, ◌∙◌, subst, append_assoc, add-one, drop-cons, min, arith, flat_map, take-append-drop, In, IsBelowAll, IsRising, put, rising, In-append, In-left, In-right, In-filter, filter-In, never, or_cases, or_left, Hash, hash_cmp, ChangeParts, has, MAX_HASHES, insert, Less, Equal, Greater, put_at, rising-In, In-rising, rising-rises, or_right, hash_total, hash_exact, HasPut, is_absent, length-take, take_more, In-middle, below-In, put-In, In-put, In-put_other, put-rises, one_list, among, is_wanted, IsMissing, among-In, In-among, heard_of, wanted_hashes}
 use Rattle.std.specs.Ordering.{ordering_reverse}
 
 -- ---- a hash is put at its index
@@ -14,13 +14,13 @@ put-front : (h : Hash) (B : List Hash) → IsBelowAll hash_cmp h B → put hash_
 put-front h [] b = refl
 put-front h (y ∷ ys) b = ap (λ o. put_at o h y ys (put hash_cmp h ys)) b.0
 
-put-behind : (h : Hash) (A : List Hash) (x : Hash) (B : List Hash) → IsRising hash_cmp (A ++ x ∷ B) → hash_cmp h x ≡ Greater → IsBelowAll hash_cmp h B
+put-after : (h : Hash) (A : List Hash) (x : Hash) (B : List Hash) → IsRising hash_cmp (A ++ x ∷ B) → hash_cmp h x ≡ Greater → IsBelowAll hash_cmp h B
     → put hash_cmp h (A ++ x ∷ B) ≡ A ++ (x ∷ h ∷ B)
-put-behind h [] x B r e b = ap (λ o. put_at o h x B (put hash_cmp h B)) e ∙ ap (λ l. x ∷ l) (put-front h B b)
-put-behind h (a ∷ A) x B r e b =
+put-after h [] x B r e b = ap (λ o. put_at o h x B (put hash_cmp h B)) e ∙ ap (λ l. x ∷ l) (put-front h B b)
+put-after h (a ∷ A) x B r e b =
     let first : hash_cmp a x ≡ Less = below-In hash_cmp a x (A ++ x ∷ B) r.0 (In-middle A x B) in
     let over : hash_cmp h a ≡ Greater = below h a (hash_total.trans a x h first (above h x e)) in
-    ap (λ o. put_at o h a (A ++ x ∷ B) (put hash_cmp h (A ++ x ∷ B))) over ∙ ap (λ l. a ∷ l) (put-behind h A x B r.1 e b)
+    ap (λ o. put_at o h a (A ++ x ∷ B) (put hash_cmp h (A ++ x ∷ B))) over ∙ ap (λ l. a ∷ l) (put-after h A x B r.1 e b)
 
 put-there : (h : Hash) (A : List Hash) (x : Hash) (B : List Hash) → IsRising hash_cmp (A ++ x ∷ B) → hash_cmp h x ≡ Equal
     → put hash_cmp h (A ++ x ∷ B) ≡ A ++ x ∷ B
@@ -33,14 +33,14 @@ put-there h (a ∷ A) x B r e =
 parts : (H : List Hash) (j : ℕ) (d : Hash) → j < length H → take j H ++ get_or H j d ∷ drop (j + 1) H ≡ H
 parts H j d small = ap (λ n. take j H ++ get_or H j d ∷ drop n H) (add-one j) ∙ ap (λ l. take j H ++ l) (sym (drop-cons H j d small)) ∙ take-append-drop j H
 
--- it stands right behind the last one that is below it
+-- it is right after the last one that is below it
 pub put_at_index : (h : Hash) (H : List Hash) (j : ℕ) (d : Hash) → j < length H → IsRising hash_cmp H → hash_cmp h (get_or H j d) ≡ Greater → IsBelowAll hash_cmp h (drop (j + 1) H)
     → put hash_cmp h H ≡ insert H (j + 1) h
 put_at_index h H j d small r e b =
     let x : Hash = get_or H j d in
     let whole : take j H ++ x ∷ drop (j + 1) H ≡ H = parts H j d small in
     ap (put hash_cmp h) (sym whole)
-    ∙ put-behind h (take j H) x (drop (j + 1) H) (subst (IsRising hash_cmp) (sym whole) r) e b
+    ∙ put-after h (take j H) x (drop (j + 1) H) (subst (IsRising hash_cmp) (sym whole) r) e b
     ∙ sym (append_assoc (take j H) (x ∷ []) (h ∷ drop (j + 1) H))
     ∙ ap (λ l. l ++ h ∷ drop (j + 1) H) (sym (take_more H j d small))
 
@@ -159,10 +159,10 @@ front_rises H zero r = tt
 front_rises [] (suc n) r = tt
 front_rises (h ∷ H) (suc n) r = (below_front h H n r.0, front_rises H n r.1)
 
-pub wanted_rises : (C W : List ChangeParts) (theirs : Option (List Hash)) → IsRising hash_cmp (wanted C W theirs)
+pub wanted_rises : (C W : List ChangeParts) (theirs : Option (List Hash)) → IsRising hash_cmp (wanted_hashes C W theirs)
 wanted_rises C W theirs = front_rises (rising hash_cmp (filter (is_absent C W) (heard_of W theirs))) MAX_HASHES (rising-rises hash_cmp hash_total (filter (is_absent C W) (heard_of W theirs)))
 
-pub wanted_few : (C W : List ChangeParts) (theirs : Option (List Hash)) → length (wanted C W theirs) ≤ MAX_HASHES
+pub wanted_few : (C W : List ChangeParts) (theirs : Option (List Hash)) → length (wanted_hashes C W theirs) ≤ MAX_HASHES
 wanted_few C W theirs =
     let all : List Hash = rising hash_cmp (filter (is_absent C W) (heard_of W theirs)) in
     let e : length (take MAX_HASHES all) ≡ min MAX_HASHES (length all) = length-take MAX_HASHES all in

@@ -1,11 +1,10 @@
 -- Which changes a message tells of as known: fewer and fewer, the farther they are from the end of the list.
-use Rattle.std.specs.Prelude.{◌≡◌, ◌≤◌, ℕ, suc, zero, ◌-◌, ◌^◌, List, [], ◌++◌, length, nat_le, cond, drop, take, map, Some}
-use Rattle.tp_sync.specs.Common.{Hash, hash_cmp, ChangeParts, hash_of, slice_get, rising}
-use Rattle.tp_sync.specs.declared.limits.TheConstants.{MAX_KNOWN}
+use Rattle.std.specs.Prelude.{◌≡◌, ◌≤◌, ℕ, suc, zero, ◌-◌, ◌^◌, List, [], ◌++◌, length, nat_le, if◌then◌else◌, drop, take, map, Some}
+use Rattle.tp_sync.specs.Common.{Hash, hash_cmp, ChangeParts, hash_of, slice_get, rising, MAX_KNOWN}
 
--- the hash of the change that is so many places before the end of C, where there are so many
+-- the hash of the change that is n places before the end of C, where C has as many
 abbrev pub before_end : List ChangeParts → ℕ → List Hash
-before_end C n = cond (nat_le n (length C)) (map hash_of (take 1 (drop (length C - n) C))) []
+before_end C n = if nat_le n (length C) then map hash_of (take 1 (drop (length C - n) C)) else []
 
 -- the hashes of the changes that are 2 ^ k places before the end of C, for each k below the number
 abbrev pub powers_before_end : List ChangeParts → ℕ → List Hash
@@ -21,5 +20,5 @@ pub record IsPowerBeforeEnd (C : List ChangeParts) (h : Hash) : Type 0 where
   pub k : ℕ
   pub change : ChangeParts
   pub within : 2 ^ k ≤ length C
-  pub stands : slice_get C (length C - 2 ^ k) ≡ Some change
+  pub present : slice_get C (length C - 2 ^ k) ≡ Some change
   pub hash : hash_of change ≡ h

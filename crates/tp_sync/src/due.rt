@@ -3,26 +3,24 @@
 ghost use Rattle.std.specs.Prelude.{◌≡◌, ◌↔◌, ◌+◌, ◌<◌, ◌^◌, ◌∷◌, ◌++◌, ◌&&◌, List, [], length, nat_lt, drop, take, map, not, false, Some, None, IfOk, IsTrue, OnOk, IsOkUnless};
 ghost use Rattle.std.specs.List.{list_any};
 ghost use Rattle.tp_sync.specs.Common.{spelling, has};
-ghost use Rattle.tp_graph.specs.Marks.{pick};
+ghost use Rattle.tp_history.specs.Marks.{pick};
 ghost use Rattle.tp_sync.specs.Due as of_due;
-ghost use Rattle.tp_sync.specs.Due.{carried, leaves_out, take_due, IsEven, IsRest, IsStretch, MovesOn};
+ghost use Rattle.tp_sync.specs.Due.{message_changes, is_truncated, take_due, IsInSync, IsRest, IsStretch, MovesOn};
 ghost use Rattle.tp_sync.specs.State.{SyncParts};
-ghost use Rattle.tp_graph.specs.Outside.{IsOutside};
-ghost use Rattle.tp_graph.specs.Since.{marks_since};
+ghost use Rattle.tp_ancestry.specs.Outside.{IsOutside};
+ghost use Rattle.tp_history.specs.Since.{marks_since};
 ghost use Rattle.tp_opid.specs.declared.hash.Hash.{Hash as HashOf};
-ghost use Rattle.tp_sync.specs.State.{declared};
-ghost use Rattle.tp_sync.specs.declared.error.SyncError.TheVariants.{OutOfMemory};
+ghost use Rattle.tp_sync.specs.State.{declared_hashes};
+ghost use Rattle.tp_message.specs.declared.error.SyncError.TheVariants.{OutOfMemory};
 
-use crate::error::SyncError;
-use crate::limits::{FULL_BYTES, MAX_CHANGES};
+use crate::limits::FULL_BYTES;
 use crate::state::SyncState;
 use std::alloc::{AllocError, Global};
 use tp_change::Change;
-use tp_document::Document;
-use tp_graph::{Outside, same_hashes};
+use tp_graph::{Graph, Outside, same_hashes};
 use tp_list::Items;
+use tp_message::{MAX_CHANGES, SyncError};
 use tp_opid::Hash;
-use tp_rga::Sequence;
 
 // The changes that a message has taken so far.
 #[derive(Drop)]
@@ -40,7 +38,7 @@ struct Taken<'a> {
 impl<'a> Taken<'a> {
     // Whether the message takes no further change.
     fn is_laden(&self) -> bool
-        ensures { result ≡ of_due.is_laden (length self.now.changes.items) self.now.bytes }
+        ensures { result ≡ of_due.is_message_full (length self.now.changes.items) self.now.bytes }
     {
         self.changes.len() >= MAX_CHANGES || self.bytes >= FULL_BYTES
     }
@@ -79,13 +77,13 @@ struct Stretch {
 
 // Where a message looks: from the next place on, where a change is due from there on, and else from the first place on,
 // up to the next. So each place is asked for at most once.
-fn find_stretch<S: Sequence>(document: &Document<S>, due: &Outside, next: usize) -> Stretch
-    requires { (H : List HashOf) × (K : List HashOf) × IsOutside document.now.applied H K due.now }
-    ensures { (H K : List HashOf) → IsOutside document.now.applied H K due.now
-        → IsStretch (marks_since document.now.applied H K) next result }
+fn find_stretch(graph: &Graph, due: &Outside, next: usize) -> Stretch
+    requires { (H : List HashOf) × (K : List HashOf) × IsOutside graph.now.applied H K due.now }
+    ensures { (H K : List HashOf) → IsOutside graph.now.applied H K due.now
+        → IsStretch (marks_since graph.now.applied H K) next result }
 {
-    let len = document.changes().len();
-    let first = document.next_outside(due, next);
+    let len = graph.changes().len();
+    let first = graph.next_outside(due, next);
     if first < len {
         return Stretch {
             from: next,
@@ -97,35 +95,35 @@ fn find_stretch<S: Sequence>(document: &Document<S>, due: &Outside, next: usize)
     let end = next.min(len);
     Stretch {
         from: 0,
-        first: document.next_outside_before(due, 0, end),
+        first: graph.next_outside_before(due, 0, end),
         end,
         goes_on: false,
     }
 }
 
 // Takes the changes of the stretch that are due, until the message takes no further one.
-fn take_from<'a, S: Sequence>(
+fn take_from<'a>(
     alloc: Global,
-    document: &'a Document<S>,
+    graph: &'a Graph,
     due: &Outside,
     stretch: &Stretch,
     next: usize,
 ) -> Result<Taken<'a>, AllocError>
-    requires due { (H : List HashOf) × (K : List HashOf) × IsOutside document.now.applied H K due.now }
-    requires stretch { (H K : List HashOf) → IsOutside document.now.applied H K due.now
-        → IsStretch (marks_since document.now.applied H K) next stretch.now }
-    ensures changes { (H K : List HashOf) → IsOutside document.now.applied H K due.now
+    requires due { (H : List HashOf) × (K : List HashOf) × IsOutside graph.now.applied H K due.now }
+    requires stretch { (H K : List HashOf) → IsOutside graph.now.applied H K due.now
+        → IsStretch (marks_since graph.now.applied H K) next stretch.now }
+    ensures changes { (H K : List HashOf) → IsOutside graph.now.applied H K due.now
         → IfOk result (λ t. map (λ c. c.now) t.changes.items
-        ≡ take_due 0 0 (pick (drop stretch.now.from (marks_since document.now.applied H K))
-        (drop stretch.now.from document.now.applied))) }
+        ≡ take_due 0 0 (pick (drop stretch.now.from (marks_since graph.now.applied H K))
+        (drop stretch.now.from graph.now.applied))) }
     ensures next { IfOk result
-        (λ t. MovesOn document.now.applied (map (λ c. c.now) t.changes.items) next t.next) }
-    ensures left { (H K : List HashOf) → IsOutside document.now.applied H K due.now
+        (λ t. MovesOn graph.now.applied (map (λ c. c.now) t.changes.items) next t.next) }
+    ensures left { (H K : List HashOf) → IsOutside graph.now.applied H K due.now
         → IfOk result (λ t. t.left ≡ nat_lt (length t.changes.items)
-        (length (pick (drop stretch.now.from (marks_since document.now.applied H K))
-        (drop stretch.now.from document.now.applied)))) }
+        (length (pick (drop stretch.now.from (marks_since graph.now.applied H K))
+        (drop stretch.now.from graph.now.applied)))) }
 {
-    let applied = document.changes();
+    let applied = graph.changes();
     let room = stretch.end.saturating_sub(stretch.first).min(MAX_CHANGES);
     let mut taken = Taken {
         changes: Vec::with_capacity(alloc, room)?,
@@ -140,18 +138,18 @@ fn take_from<'a, S: Sequence>(
             return Ok(taken);
         }
         taken.take(&applied[place], place)?;
-        place = document.next_outside_before(due, place + 1, stretch.end);
+        place = graph.next_outside_before(due, place + 1, stretch.end);
     }
     Ok(taken)
 }
 
-// Whether a change is due that stands before the place.
-fn is_any_before<S: Sequence>(document: &Document<S>, due: &Outside, place: usize) -> bool
-    requires { (H : List HashOf) × (K : List HashOf) × IsOutside document.now.applied H K due.now }
-    ensures { (H K : List HashOf) → IsOutside document.now.applied H K due.now
-        → result ≡ list_any (λ b. b) (take place (marks_since document.now.applied H K)) }
+// Whether a change is due that is before the place.
+fn is_any_before(graph: &Graph, due: &Outside, place: usize) -> bool
+    requires { (H : List HashOf) × (K : List HashOf) × IsOutside graph.now.applied H K due.now }
+    ensures { (H K : List HashOf) → IsOutside graph.now.applied H K due.now
+        → result ≡ list_any (λ b. b) (take place (marks_since graph.now.applied H K)) }
 {
-    document.next_outside_before(due, 0, place) < place
+    graph.next_outside_before(due, 0, place) < place
 }
 
 // Whether something is taken, though nothing is due from the next place on.
@@ -172,19 +170,19 @@ pub(crate) fn are(kept: &Option<Items<Hash>>, hashes: &[Hash]) -> bool
 }
 
 // Whether an applied change has one of the hashes.
-fn has_any<S: Sequence>(document: &Document<S>, hashes: &[Hash]) -> bool
-    ensures { result ≡ list_any (λ h. has document.now.applied h) hashes.now }
+fn has_any(graph: &Graph, hashes: &[Hash]) -> bool
+    ensures { result ≡ list_any (λ h. has graph.now.applied h) hashes.now }
 {
-    hashes.iter().any(|hash| document.contains(hash))
+    hashes.iter().any(|hash| graph.contains(hash))
 }
 
 /// Whether the other declared the very heads that are there, and nothing is due to it: it wants no change that is
 /// there. No pass over the changes.
-pub(crate) fn is_even<S: Sequence>(document: &Document<S>, state: &SyncState) -> bool
-    ensures { IsTrue result ↔ IsEven document.now.applied state.now }
+pub(crate) fn is_even(graph: &Graph, state: &SyncState) -> bool
+    ensures { IsTrue result ↔ IsInSync graph.now.applied state.now }
 {
-    let _changes = document.changes();
-    are(&state.theirs, document.heads()) && !has_any(document, state.wants.as_slice())
+    let _changes = graph.changes();
+    are(&state.theirs, graph.heads()) && !has_any(graph, state.wants.as_slice())
 }
 
 // What a message that looked for changes leaves.
@@ -199,12 +197,12 @@ struct Rest {
 }
 
 // Whether changes that are due are left out.
-fn leaves<S: Sequence>(document: &Document<S>, rest: &Rest) -> bool
-    requires { (s : SyncParts) × IsRest document.now.applied s (Some rest.now) }
-    ensures { (s : SyncParts) → IsRest document.now.applied s (Some rest.now)
-        → result ≡ leaves_out document.now.applied s }
+fn leaves(graph: &Graph, rest: &Rest) -> bool
+    requires { (s : SyncParts) × IsRest graph.now.applied s (Some rest.now) }
+    ensures { (s : SyncParts) → IsRest graph.now.applied s (Some rest.now)
+        → result ≡ is_truncated graph.now.applied s }
 {
-    rest.left || is_any_before(document, &rest.due, rest.from)
+    rest.left || is_any_before(graph, &rest.due, rest.from)
 }
 
 /// What a message carries of the changes that are due, and how far it gets.
@@ -241,20 +239,20 @@ impl<'a> Load<'a> {
 
     /// Whether it leaves out changes that are due. Only the places before that from which it looked for them are asked
     /// for, and none where it found one that it doesn't carry.
-    pub(crate) fn is_cut<S: Sequence>(&self, document: &Document<S>) -> bool
-        requires { (s : SyncParts) × IsRest document.now.applied s self.now.rest }
-        ensures { (s : SyncParts) → IsRest document.now.applied s self.now.rest
-            → result ≡ leaves_out document.now.applied s }
+    pub(crate) fn is_cut(&self, graph: &Graph) -> bool
+        requires { (s : SyncParts) × IsRest graph.now.applied s self.now.rest }
+        ensures { (s : SyncParts) → IsRest graph.now.applied s self.now.rest
+            → result ≡ is_truncated graph.now.applied s }
     {
         match &self.rest {
-            Some(rest) => leaves(document, rest),
+            Some(rest) => leaves(graph, rest),
             None => false,
         }
     }
 }
 
 // The hashes of both lists.
-fn joined(alloc: Global, front: &[Hash], rest: &[Hash]) -> Result<Vec<Hash>, AllocError>
+fn hashes_of_both(alloc: Global, front: &[Hash], rest: &[Hash]) -> Result<Vec<Hash>, AllocError>
     ensures { IfOk result (λ v. v.items ≡ front.now ++ rest.now) }
 {
     let mut hashes = Vec::with_capacity(alloc, front.len().saturating_add(rest.len()))?;
@@ -264,29 +262,29 @@ fn joined(alloc: Global, front: &[Hash], rest: &[Hash]) -> Result<Vec<Hash>, All
 }
 
 // What the next message to a peer that declared that it has these changes carries.
-fn load_declared<'a, S: Sequence>(
+fn load_declared<'a>(
     alloc: Global,
-    document: &'a Document<S>,
+    graph: &'a Graph,
     theirs: &[Hash],
     state: &SyncState,
 ) -> Result<Load<'a>, SyncError>
-    requires { declared state.now ≡ Some theirs.now }
+    requires { declared_hashes state.now ≡ Some theirs.now }
     ensures changes { IfOk result (λ l. map (λ c. c.now) l.changes.items
-        ≡ carried document.now.applied state.now) }
-    ensures next { IfOk result (λ l. MovesOn document.now.applied
-        (carried document.now.applied state.now) state.now.next l.next) }
+        ≡ message_changes graph.now.applied state.now) }
+    ensures next { IfOk result (λ l. MovesOn graph.now.applied
+        (message_changes graph.now.applied state.now) state.now.next l.next) }
     ensures again { IfOk result
-        (λ l. l.again ≡ of_due.begins_again document.now.applied state.now) }
-    ensures rest { IfOk result (λ l. IsRest document.now.applied state.now l.rest) }
+        (λ l. l.again ≡ of_due.starts_over graph.now.applied state.now) }
+    ensures rest { IfOk result (λ l. IsRest graph.now.applied state.now l.rest) }
     ensures err { IsOkUnless result OutOfMemory }
 {
-    let _changes = document.changes();
-    let due = match document.outside(theirs, state.wants.as_slice()) {
+    let _changes = graph.changes();
+    let due = match graph.outside(theirs, state.wants.as_slice()) {
         Ok(due) => due,
         Err(_) => return Err(SyncError::OutOfMemory),
     };
-    let stretch = find_stretch(document, &due, state.next);
-    let taken = take_from(alloc, document, &due, &stretch, state.next)?;
+    let stretch = find_stretch(graph, &due, state.next);
+    let taken = take_from(alloc, graph, &due, &stretch, state.next)?;
     let again = begins_again(taken.changes.len(), stretch.goes_on);
     let rest = Rest {
         due,
@@ -306,28 +304,28 @@ fn load_declared<'a, S: Sequence>(
 /// heads that are there and nothing is wanted. Else each place from the prefix of the other's past on is asked for at
 /// most once: those from the next place on, until the message is full, and those before it only where nothing is due
 /// from there on. Only where a change that is there is wanted are all changes passed over first. No change is copied.
-pub(crate) fn load_for<'a, S: Sequence>(
+pub(crate) fn load_for<'a>(
     alloc: Global,
-    document: &'a Document<S>,
+    graph: &'a Graph,
     state: &SyncState,
 ) -> Result<Load<'a>, SyncError>
     ensures changes { IfOk result (λ l. map (λ c. c.now) l.changes.items
-        ≡ carried document.now.applied state.now) }
-    ensures next { IfOk result (λ l. MovesOn document.now.applied
-        (carried document.now.applied state.now) state.now.next l.next) }
+        ≡ message_changes graph.now.applied state.now) }
+    ensures next { IfOk result (λ l. MovesOn graph.now.applied
+        (message_changes graph.now.applied state.now) state.now.next l.next) }
     ensures again { IfOk result
-        (λ l. l.again ≡ of_due.begins_again document.now.applied state.now) }
-    ensures rest { IfOk result (λ l. IsRest document.now.applied state.now l.rest) }
+        (λ l. l.again ≡ of_due.starts_over graph.now.applied state.now) }
+    ensures rest { IfOk result (λ l. IsRest graph.now.applied state.now l.rest) }
     ensures err { IsOkUnless result OutOfMemory }
 {
-    let _changes = document.changes();
-    if is_even(document, state) {
+    let _changes = graph.changes();
+    if is_even(graph, state) {
         return Ok(Load::nothing(alloc, state.next));
     }
     match &state.theirs {
         Some(heads) => {
-            let theirs = joined(alloc, heads.as_slice(), state.known.as_slice())?;
-            load_declared(alloc, document, &theirs, state)
+            let theirs = hashes_of_both(alloc, heads.as_slice(), state.known.as_slice())?;
+            load_declared(alloc, graph, &theirs, state)
         }
         None => Ok(Load::nothing(alloc, state.next)),
     }

@@ -1,17 +1,17 @@
 //! Two documents exchange what they have.
 
 ghost use Rattle.std.specs.Prelude.{◌≡◌, None, IfNone, IfOk, IfErr, IfSome, MatchOption, OnOk};
-ghost use Rattle.tp_sync.specs.Answer.{IsQuiet};
-ghost use Rattle.tp_sync.specs.Due.{leaves_out};
-ghost use Rattle.tp_sync.specs.Exchange.{side, Closes, Exchanges, ExchangeFails, IsOtherOnly, IsNothing, PassFails, Passes, Replies, ReplyFails, Stops};
-ghost use Rattle.tp_sync.specs.State.{fresh};
+ghost use Rattle.tp_sync.specs.NextMessage.{HasNothingToSend};
+ghost use Rattle.tp_sync.specs.Due.{is_truncated};
+ghost use Rattle.tp_sync.specs.Exchange.{side, PassesOrRests, Exchanges, RefusesExchange, IsOtherOnly, IsNothing, RefusesPass, PassesMessage, Replies, RefusesReply, ExchangeStops};
+ghost use Rattle.tp_sync.specs.State.{new_sync_state};
 
-use crate::error::SyncError;
 use crate::generating::send;
 use crate::receiving::receive;
 use crate::state::SyncState;
 use std::alloc::Global;
 use tp_document::{Applied, Document};
+use tp_message::SyncError;
 use tp_rga::Sequence;
 
 /// What an exchange did.
@@ -44,14 +44,14 @@ fn pass<S: Sequence>(
 ) -> Result<Option<Passed>, SyncError>
     ensures id { to.new.id ≡ to.old.id }
     ensures passes { IfOk result (λ o. MatchOption o
-        (IsQuiet from.now.applied ours.old)
-        (λ p. Passes (side from.now ours.old) ours.new (side to.old theirs.old)
+        (HasNothingToSend from.now.applied ours.old)
+        (λ p. PassesMessage (side from.now ours.old) ours.new (side to.old theirs.old)
         (side to.new theirs.new) p.applied)) }
     ensures rests { IfOk result (λ o. IfNone o ((to.new ≡ to.old)
         × (ours.new ≡ ours.old) × (theirs.new ≡ theirs.old))) }
     ensures cut { IfOk result (λ o. IfSome o
-        (λ p. p.cut ≡ leaves_out from.now.applied ours.old)) }
-    ensures err { IfErr result (λ e. PassFails (side from.now ours.old) to.old to.new e) }
+        (λ p. p.cut ≡ is_truncated from.now.applied ours.old)) }
+    ensures err { IfErr result (λ e. RefusesPass (side from.now ours.old) to.old e to.new) }
 {
     match send(alloc, from, ours)? {
         Some(sent) => {
@@ -76,7 +76,7 @@ fn nothing(alloc: Global) -> Applied
     }
 }
 
-// One side, which told the other nothing that counts yet, makes a message, and the other receives it.
+// One side, which has declared nothing to the other that counts yet, makes a message, and the other receives it.
 fn speak<S: Sequence>(
     alloc: Global,
     from: &Document<S>,
@@ -84,13 +84,13 @@ fn speak<S: Sequence>(
     to: &mut Document<S>,
     theirs: &mut SyncState,
 ) -> Result<Passed, SyncError>
-    requires { ours.old.told ≡ None }
+    requires { ours.old.declared ≡ None }
     ensures id { to.new.id ≡ to.old.id }
-    ensures passes { IfOk result (λ p. Passes (side from.now ours.old) ours.new
+    ensures passes { IfOk result (λ p. PassesMessage (side from.now ours.old) ours.new
         (side to.old theirs.old) (side to.new theirs.new) p.applied) }
-    ensures told { OnOk result (theirs.old.told ≡ None → theirs.new.told ≡ None) }
-    ensures cut { IfOk result (λ p. p.cut ≡ leaves_out from.now.applied ours.old) }
-    ensures err { IfErr result (λ e. PassFails (side from.now ours.old) to.old to.new e) }
+    ensures declared { OnOk result (theirs.old.declared ≡ None → theirs.new.declared ≡ None) }
+    ensures cut { IfOk result (λ p. p.cut ≡ is_truncated from.now.applied ours.old) }
+    ensures err { IfErr result (λ e. RefusesPass (side from.now ours.old) to.old e to.new) }
 {
     match pass(alloc, from, ours, to, theirs) {
         Ok(Some(passed)) => Ok(passed),
@@ -108,10 +108,10 @@ fn close<S: Sequence>(
     theirs: &mut SyncState,
 ) -> Result<Passed, SyncError>
     ensures id { to.new.id ≡ to.old.id }
-    ensures closes { IfOk result (λ p. Closes (side from.now ours.old)
+    ensures closes { IfOk result (λ p. PassesOrRests (side from.now ours.old)
         (side to.old theirs.old) (side to.new theirs.new) p.applied) }
-    ensures cut { IfOk result (λ p. p.cut ≡ leaves_out from.now.applied ours.old) }
-    ensures err { IfErr result (λ e. PassFails (side from.now ours.old) to.old to.new e) }
+    ensures cut { IfOk result (λ p. p.cut ≡ is_truncated from.now.applied ours.old) }
+    ensures err { IfErr result (λ e. RefusesPass (side from.now ours.old) to.old e to.new) }
 {
     match pass(alloc, from, ours, to, theirs) {
         Ok(Some(passed)) => Ok(passed),
@@ -131,13 +131,13 @@ fn reply<S: Sequence>(
     b: &mut Document<S>,
     theirs: &mut SyncState,
 ) -> Result<Exchanged, SyncError>
-    requires { theirs.old.told ≡ None }
+    requires { theirs.old.declared ≡ None }
     ensures a_id { a.new.id ≡ a.old.id }
     ensures b_id { b.new.id ≡ b.old.id }
     ensures ok { IfOk result (λ r. Replies (side a.old ours.old) (side b.old theirs.old)
         a.new b.new r) }
-    ensures err { IfErr result (λ e. ReplyFails (side a.old ours.old) (side b.old theirs.old)
-        a.new b.new e) }
+    ensures err { IfErr result (λ e. RefusesReply (side a.old ours.old) (side b.old theirs.old)
+        e a.new b.new) }
 {
     match speak(alloc, b, theirs, a, ours) {
         Ok(into_a) => match close(alloc, a, ours, b, theirs) {
@@ -160,12 +160,12 @@ fn exchange_from<S: Sequence>(
     b: &mut Document<S>,
     theirs: &mut SyncState,
 ) -> Result<Exchanged, SyncError>
-    requires ours { ours.old ≡ fresh }
-    requires theirs { theirs.old ≡ fresh }
+    requires ours { ours.old ≡ new_sync_state }
+    requires theirs { theirs.old ≡ new_sync_state }
     ensures a_id { a.new.id ≡ a.old.id }
     ensures b_id { b.new.id ≡ b.old.id }
     ensures ok { IfOk result (λ r. Exchanges a.old b.old a.new b.new r) }
-    ensures err { IfErr result (λ e. Stops a.old b.old a.new b.new e) }
+    ensures err { IfErr result (λ e. ExchangeStops a.old b.old a.new b.new e) }
 {
     match speak(alloc, a, ours, b, theirs) {
         Ok(_begun) => reply(alloc, a, ours, b, theirs),
@@ -191,7 +191,7 @@ pub fn exchange<S: Sequence>(
     ensures ids { (a.new.id ≡ a.old.id) × (b.new.id ≡ b.old.id) }
     ensures ok { IfOk result (λ r. Exchanges a.old b.old a.new b.new r) }
     ensures other { IsOtherOnly result a.old.id b.old.id }
-    ensures err { IfErr result (λ e. ExchangeFails a.old b.old a.new b.new e) }
+    ensures err { IfErr result (λ e. RefusesExchange a.old b.old e a.new b.new) }
 {
     if !a.id().is(&b.id()) {
         return Err(SyncError::OtherDocument);

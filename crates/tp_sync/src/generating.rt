@@ -2,32 +2,28 @@
 
 ghost use Rattle.std.specs.Prelude.{◌≡◌, ◌↔◌, ◌<◌, ◌≤◌, ◌⊎◌, length, map, Err, IfOk, IfErr, IfSome, IsOkUnless, IsTrue, MatchOption};
 ghost use Rattle.tp_sync.specs.Common.{option_map};
-ghost use Rattle.tp_graph.specs.Heads as head;
-ghost use Rattle.tp_sync.specs.Answer.{Answer, AnswerBytes, IsQuiet, Says};
-ghost use Rattle.tp_sync.specs.Due.{leaves_out};
+ghost use Rattle.tp_history.specs.Heads as head;
+ghost use Rattle.tp_sync.specs.NextMessage.{NextMessage, AnswerBytes, HasNothingToSend, SendsMessage};
+ghost use Rattle.tp_sync.specs.Due.{is_truncated};
 ghost use Rattle.tp_sync.specs.Saying.{IsToSay};
-ghost use Rattle.tp_sync.specs.declared.error.SyncError.TheVariants.{OutOfMemory, TooManyHeads};
+ghost use Rattle.tp_message.specs.declared.error.SyncError.TheVariants.{OutOfMemory, TooManyHeads};
 
 use crate::due::{Load, are, is_even, load_for};
-use crate::error::SyncError;
-use crate::known::known;
-use crate::limits::MAX_HASHES;
-use crate::message::Message;
+use crate::known::collect_known;
 use crate::state::SyncState;
 use crate::wanting::wants;
-use crate::writing::written;
 use std::alloc::Global;
 use tp_change::Change;
 use tp_document::Document;
-use tp_list::Items;
+use tp_message::{MAX_HASHES, Message, SyncError, encode_parts};
 use tp_opid::Hash;
 use tp_rga::Sequence;
 
 // Whether nothing is to be said.
 fn is_quiet<S: Sequence>(document: &Document<S>, state: &SyncState) -> bool
-    ensures { IsTrue result ↔ IsQuiet document.now.applied state.now }
+    ensures { IsTrue result ↔ HasNothingToSend document.now.applied state.now }
 {
-    are(&state.told, document.heads()) && is_even(document, state)
+    are(&state.declared, document.heads()) && is_even(document.graph(), state)
 }
 
 // What a message to another peer says.
@@ -49,7 +45,7 @@ fn to_say<'a, S: Sequence>(
     document: &'a Document<S>,
     state: &SyncState,
 ) -> Result<Option<Saying<'a>>, SyncError>
-    ensures says { IfOk result (λ o. MatchOption o (IsQuiet document.now.applied state.now)
+    ensures says { IfOk result (λ o. MatchOption o (HasNothingToSend document.now.applied state.now)
         (IsToSay document.now.applied document.now.waiting state.now)) }
     ensures many { (result ≡ Err TooManyHeads)
         ↔ (MAX_HASHES < length (head.heads document.now.applied)) }
@@ -62,9 +58,9 @@ fn to_say<'a, S: Sequence>(
     if is_quiet(document, state) {
         return Ok(None);
     }
-    let load = load_for(alloc, document, state)?;
-    let wants = wants(document, state)?;
-    let known = known(alloc, document)?;
+    let load = load_for(alloc, document.graph(), state)?;
+    let wants = wants(document.graph(), state)?;
+    let known = collect_known(alloc, document)?;
     let heads = Vec::from_slice(alloc, heads)?;
     Ok(Some(Saying {
         heads,
@@ -89,8 +85,8 @@ fn copies_of(alloc: Global, changes: &[&Change]) -> Result<Vec<Change>, SyncErro
     Ok(copies)
 }
 
-// The message that says it, with copies of the changes that it carries. The state is told of it.
-fn made<S: Sequence>(
+// The message that says it, with copies of the changes that it carries. The state takes note of it.
+fn make_message<S: Sequence>(
     alloc: Global,
     document: &Document<S>,
     state: &mut SyncState,
@@ -98,7 +94,7 @@ fn made<S: Sequence>(
 ) -> Result<Message, SyncError>
     requires { IsToSay document.now.applied document.now.waiting state.old saying }
     ensures says { IfOk result
-        (λ m. Says document.now.applied document.now.waiting state.old m state.new) }
+        (λ m. SendsMessage document.now.applied document.now.waiting state.old m state.new) }
     ensures err { IfErr result (λ e. (e ≡ OutOfMemory) × (state.new ≡ state.old)) }
 {
     let _changes = document.changes();
@@ -109,9 +105,9 @@ fn made<S: Sequence>(
         load,
     } = saying;
     let changes = copies_of(alloc, &load.changes)?;
-    let told = Vec::from_slice(alloc, &heads)?;
+    let declared = Vec::from_slice(alloc, &heads)?;
     let message = Message::new(heads, wants, known, changes);
-    state.tell(told, load.next, load.again);
+    state.tell(declared, load.next, load.again);
     Ok(message)
 }
 
@@ -130,10 +126,10 @@ pub(crate) fn send<S: Sequence>(
     document: &Document<S>,
     state: &mut SyncState,
 ) -> Result<Option<Sent>, SyncError>
-    ensures answer { IfOk result (λ sent. Answer document.now.applied document.now.waiting
+    ensures answer { IfOk result (λ sent. NextMessage document.now.applied document.now.waiting
         state.old (option_map (λ s. s.message) sent) state.new) }
     ensures cut { IfOk result (λ sent. IfSome sent
-        (λ s. s.cut ≡ leaves_out document.now.applied state.old)) }
+        (λ s. s.cut ≡ is_truncated document.now.applied state.old)) }
     ensures many { (result ≡ Err TooManyHeads)
         ↔ (MAX_HASHES < length (head.heads document.now.applied)) }
     ensures err { IfErr result
@@ -141,8 +137,8 @@ pub(crate) fn send<S: Sequence>(
 {
     match to_say(alloc, document, state)? {
         Some(saying) => {
-            let cut = saying.load.is_cut(document);
-            let message = made(alloc, document, state, saying)?;
+            let cut = saying.load.is_cut(document.graph());
+            let message = make_message(alloc, document, state, saying)?;
             Ok(Some(Sent { message, cut }))
         }
         None => Ok(None),
@@ -152,8 +148,8 @@ pub(crate) fn send<S: Sequence>(
 /// The next message to another peer, as Automerge's call `generate_sync_message`: the document's heads; the hashes that
 /// it wants, which are those of the other's heads and of the dependencies of waiting changes that are neither applied
 /// nor waiting, the least 65,535 of them; those of the applied changes that are 1, 2, 4, 8 and so on places before the
-/// end of the list; and changes that are due. It is of version 2. `None` where the heads were told, the other declared
-/// the same, and nothing is due; the state stays then.
+/// end of the list; and changes that are due. It is of version 2. `None` where the heads were declared to the other, it
+/// declared the same, and nothing is due; the state stays then.
 ///
 /// Nothing is due before the other declared heads. Then those of the applied changes are that the other wants, or that
 /// aren't in the past of those of its heads and of the changes that it knew that are applied here. Whether they were
@@ -176,7 +172,7 @@ pub fn generate<S: Sequence>(
     document: &Document<S>,
     state: &mut SyncState,
 ) -> Result<Option<Message>, SyncError>
-    ensures answer { IfOk result (λ message. Answer document.now.applied document.now.waiting
+    ensures answer { IfOk result (λ message. NextMessage document.now.applied document.now.waiting
         state.old message state.new) }
     ensures many { (result ≡ Err TooManyHeads)
         ↔ (MAX_HASHES < length (head.heads document.now.applied)) }
@@ -184,7 +180,7 @@ pub fn generate<S: Sequence>(
         (λ e. ((e ≡ TooManyHeads) ⊎ (e ≡ OutOfMemory)) × (state.new ≡ state.old)) }
 {
     match to_say(alloc, document, state)? {
-        Some(saying) => Ok(Some(made(alloc, document, state, saying)?)),
+        Some(saying) => Ok(Some(make_message(alloc, document, state, saying)?)),
         None => Ok(None),
     }
 }
@@ -216,7 +212,7 @@ pub fn generate_bytes<S: Sequence>(
                 load,
             },
         ) => {
-            let bytes = written(alloc, &heads, &wants, &known, &load.changes, load.bytes)?;
+            let bytes = encode_parts(alloc, &heads, &wants, &known, &load.changes, load.bytes)?;
             state.tell(heads, load.next, load.again);
             Ok(Some(bytes))
         }

@@ -7,26 +7,20 @@
 #![tactic(auto)]
 
 mod due;
-mod error;
 mod exchanging;
 mod generating;
 mod known;
 pub mod laws;
-pub mod layout;
 mod limits;
-mod message;
-mod reading;
 mod receiving;
-mod stages;
 mod state;
 mod wanting;
-mod writing;
 
-pub use error::SyncError;
 pub use exchanging::{Exchanged, exchange};
 pub use generating::{generate, generate_bytes};
-pub use limits::{FULL_BYTES, MAX_CHANGES, MAX_HASHES, MAX_KNOWN};
-pub use message::Message;
-pub use reading::MessageReader;
+pub use limits::FULL_BYTES;
 pub use receiving::{receive, receive_with};
 pub use state::SyncState;
+pub use tp_message::{
+    MAX_CHANGES, MAX_HASHES, MAX_KNOWN, Message, MessageReader, SyncError, layout,
+};

@@ -1,25 +1,25 @@
 //! What is known of another peer.
 
 ghost use Rattle.std.specs.Prelude.{◌≡◌, ◌↔◌, [], Some, None, unwrap_or, if◌then◌else◌, IfOk, IsOkUnless, IsTrue, MatchOption};
-ghost use Rattle.tp_sync.specs.State.{fresh};
-ghost use Rattle.tp_sync.specs.declared.error.SyncError.TheVariants.{OutOfMemory};
+ghost use Rattle.tp_sync.specs.State.{new_sync_state};
+ghost use Rattle.tp_message.specs.declared.error.SyncError.TheVariants.{OutOfMemory};
 
 use crate::due::are;
-use crate::error::SyncError;
 use std::alloc::{AllocError, Global};
 use std::marker::Model;
 use tp_list::Items;
+use tp_message::SyncError;
 use tp_opid::Hash;
 
 /// What a peer knows of another one to which it sends changes, as Automerge's `sync::State`: the heads that the other
-/// declared last, the hashes that it wanted and those of changes that it knew then, and what it was told.
+/// declared last, the hashes that it wanted and those of changes that it knew then, and what was declared to it.
 ///
 /// Nothing that was sent counts as received: what is due to the other follows from what it declared and wants alone.
 pub struct SyncState {
     pub(crate) theirs: Option<Items<Hash>>,
     pub(crate) wants: Items<Hash>,
     pub(crate) known: Items<Hash>,
-    pub(crate) told: Option<Items<Hash>>,
+    pub(crate) declared: Option<Items<Hash>>,
     pub(crate) next: usize,
     pub(crate) again: bool,
 }
@@ -30,7 +30,7 @@ impl Drop for SyncState {
             theirs: _,
             wants: _,
             known: _,
-            told: _,
+            declared: _,
             next: _,
             again: _,
         } = self;
@@ -42,7 +42,7 @@ impl Model for SyncState {
 
     ghost Value = { SyncParts };
 
-    ghost view = { λ s. record { theirs = s.theirs; wants = s.wants; known = s.known; told = s.told; next = s.next; again = s.again } };
+    ghost view = { λ s. record { theirs = s.theirs; wants = s.wants; known = s.known; declared = s.declared; next = s.next; again = s.again } };
 }
 
 // Equal hashes, if there are any.
@@ -59,22 +59,22 @@ fn copy_of(alloc: Global, hashes: &Option<Items<Hash>>) -> Result<Option<Items<H
 }
 
 impl SyncState {
-    /// The state at first: nothing was heard and nothing was told. No memory.
+    /// The state at first: nothing came from the other, and nothing was declared to it. No memory.
     pub fn new(alloc: Global) -> SyncState
-        ensures { result ≡ fresh }
+        ensures { result ≡ new_sync_state }
     {
         SyncState {
             theirs: None,
             wants: Items::new(Vec::new(alloc)),
             known: Items::new(Vec::new(alloc)),
-            told: None,
+            declared: None,
             next: 0,
             again: false,
         }
     }
 
     /// Whether something was due when the last message was made, and the message took it from the first change again,
-    /// since nothing that was due stood behind what the ones before had taken.
+    /// since nothing that was due was after what the ones before had taken.
     pub fn again(&self) -> bool
         ensures { result ≡ self.now.again }
     {
@@ -89,12 +89,12 @@ impl SyncState {
         let theirs = copy_of(alloc, &self.theirs)?;
         let wants = Vec::from_slice(alloc, self.wants.as_slice())?;
         let known = Vec::from_slice(alloc, self.known.as_slice())?;
-        let told = copy_of(alloc, &self.told)?;
+        let declared = copy_of(alloc, &self.declared)?;
         Ok(SyncState {
             theirs,
             wants: Items::new(wants),
             known: Items::new(known),
-            told,
+            declared,
             next: self.next,
             again: self.again,
         })
@@ -130,15 +130,15 @@ impl SyncState {
 
     /// Notes what a message tells the other: the heads, and how far its changes got.
     pub(crate) fn tell(&mut self, heads: Vec<Hash>, next: usize, again: bool)
-        ensures { self.new ≡ record self.old { told = Some heads.items; next = next; again = again } }
+        ensures { self.new ≡ record self.old { declared = Some heads.items; next = next; again = again } }
     {
-        self.told = Some(Items::new(heads));
+        self.declared = Some(Items::new(heads));
         self.next = next;
         self.again = again;
     }
 
-    /// Takes up the heads that the other declared, the hashes that it wants and those of changes that it knows. What it was
-    /// told counts no longer where it sent changes: so it is told what they led to.
+    /// Takes up the heads that the other declared, the hashes that it wants and those of changes that it knows. What
+    /// was declared to it counts no longer where it sent changes: so the next message declares what they led to.
     pub(crate) fn hear(
         &mut self,
         heads: Vec<Hash>,
@@ -150,14 +150,14 @@ impl SyncState {
           theirs = Some heads.items;
           wants = wants.items;
           known = known.items;
-          told = (if sent_changes then None else self.old.told);
+          declared = (if sent_changes then None else self.old.declared);
         } }
     {
         self.theirs = Some(Items::new(heads));
         self.wants = Items::new(wants);
         self.known = Items::new(known);
         if sent_changes {
-            self.told = None;
+            self.declared = None;
         }
     }
 }

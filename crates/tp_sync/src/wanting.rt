@@ -7,22 +7,20 @@ ghost use Rattle.tp_list.specs.Rising as list;
 ghost use Rattle.tp_opid.specs.declared.hash.Hash.{Hash as HashOf};
 ghost use Rattle.tp_sync.specs.Wanting as wanting;
 ghost use Rattle.tp_sync.specs.Wanting.{HasPut};
-ghost use Rattle.tp_sync.specs.declared.error.SyncError.TheVariants.{OutOfMemory};
+ghost use Rattle.tp_message.specs.declared.error.SyncError.TheVariants.{OutOfMemory};
 
-use crate::error::SyncError;
-use crate::limits::MAX_HASHES;
 use crate::state::SyncState;
 use std::alloc::AllocError;
 use std::cmp::Ordering;
-use tp_document::Document;
+use tp_graph::Graph;
+use tp_message::{MAX_HASHES, SyncError};
 use tp_opid::Hash;
-use tp_rga::Sequence;
 
 // Whether neither an applied nor a waiting change has the hash.
-fn is_absent<S: Sequence>(document: &Document<S>, hash: &Hash) -> bool
-    ensures { result ≡ wanting.is_absent document.now.applied document.now.waiting hash.now }
+fn is_absent(graph: &Graph, hash: &Hash) -> bool
+    ensures { result ≡ wanting.is_absent graph.now.applied graph.now.waiting hash.now }
 {
-    !(document.contains(hash) || document.waits(hash))
+    !(graph.contains(hash) || graph.waits(hash))
 }
 
 // The index at which the hash belongs, or None where it is there. It is looked for from the end, so that rising hashes
@@ -56,17 +54,13 @@ pub(crate) fn put(hashes: &mut Vec<Hash>, hash: Hash) -> Result<(), AllocError>
 }
 
 // Puts those of the hashes that the document hasn't.
-fn put_absent<S: Sequence>(
-    document: &Document<S>,
-    found: &mut Vec<Hash>,
-    hashes: &[Hash],
-) -> Result<(), AllocError>
+fn put_absent(graph: &Graph, found: &mut Vec<Hash>, hashes: &[Hash]) -> Result<(), AllocError>
     requires { IsRising hash_cmp found.old.items }
-    ensures { OnOk result (HasPut document.now.applied document.now.waiting
+    ensures { OnOk result (HasPut graph.now.applied graph.now.waiting
         found.old.items hashes.now found.new.items) }
 {
     for hash in hashes {
-        if is_absent(document, hash) {
+        if is_absent(graph, hash) {
             put(found, *hash)?;
         }
     }
@@ -74,19 +68,16 @@ fn put_absent<S: Sequence>(
 }
 
 /// The hashes of the changes that the document wants, rising.
-pub(crate) fn wants<S: Sequence>(
-    document: &Document<S>,
-    state: &SyncState,
-) -> Result<Vec<Hash>, SyncError>
+pub(crate) fn wants(graph: &Graph, state: &SyncState) -> Result<Vec<Hash>, SyncError>
     ensures wants { IfOk result (λ v. v.items
-        ≡ wanting.wanted document.now.applied document.now.waiting state.now.theirs) }
+        ≡ wanting.wanted_hashes graph.now.applied graph.now.waiting state.now.theirs) }
     ensures err { IsOkUnless result OutOfMemory }
 {
-    let mut found = match document.missing() {
+    let mut found = match graph.missing() {
         Ok(missing) => missing,
         Err(_) => return Err(SyncError::OutOfMemory),
     };
-    put_absent(document, &mut found, state.declared_heads())?;
+    put_absent(graph, &mut found, state.declared_heads())?;
     found.truncate(MAX_HASHES);
     Ok(found)
 }

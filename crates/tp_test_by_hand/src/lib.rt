@@ -1,5 +1,5 @@
 //! What was worked out by hand: the order of elements, saved files by their bytes, worlds by their replies, windows by what a
-//! page is told.
+//! page is answered.
 #![tactic(auto)]
 
 #[cfg(test)]

@@ -22,7 +22,7 @@ const ABC: [u8; 122] = *b"\
     \xe5\x68\xd7\xa6\x55\x26\x9f\xb9\xd2\xe0\x12\x30\xb8\x15\x74\x49\x9c\x45\x9e\xf0\x19\xc4\xb2\x4e\
     \xef\x81";
 
-/// The same with 2 as the version of the change.
+/// The saved file with 2 as the version of the change.
 const NEWER: [u8; 122] = *b"\
     \x52\x47\x41\x54\x45\x58\x54\x31\x07\x07\x07\x07\x07\x07\x07\x07\x07\x07\x07\x07\x07\x07\x07\x07\
     \x00\x00\x00\x01\x00\x00\x00\x3a\x02\x00\x00\x00\x00\x00\x00\x00\x00\x00\x00\x00\x00\x00\x00\x00\
@@ -31,7 +31,7 @@ const NEWER: [u8; 122] = *b"\
     \x0f\xa3\x58\xdf\x20\x2e\x6f\x22\xdb\x27\xef\xcd\x1f\x2a\xc9\x34\xec\x38\xcd\xd0\x76\x9c\xb7\x89\
     \x49\x08";
 
-/// The same with 2 as the start of the change.
+/// The saved file with 2 as the start of the change.
 const LATE: [u8; 122] = *b"\
     \x52\x47\x41\x54\x45\x58\x54\x31\x07\x07\x07\x07\x07\x07\x07\x07\x07\x07\x07\x07\x07\x07\x07\x07\
     \x00\x00\x00\x01\x00\x00\x00\x3a\x01\x00\x00\x00\x00\x00\x00\x00\x00\x00\x00\x00\x00\x00\x00\x00\
@@ -55,7 +55,7 @@ const TWICE: [u8; 184] = *b"\
 #[derive(Clone, Copy)]
 enum Damage {
     None,
-    /// So many are left.
+    /// This many are left.
     Cut(usize),
     /// The one at the offset is another one.
     Byte(usize, u8),
@@ -106,7 +106,7 @@ const ROWS: [Row; 18] = [
 ];
 
 /// The bytes with their damage.
-fn damaged(alloc: Global, bytes: &[u8], damage: Damage) -> Result<Vec<u8>, AllocError> {
+fn with_damage(alloc: Global, bytes: &[u8], damage: Damage) -> Result<Vec<u8>, AllocError> {
     let mut bytes = Vec::from_slice(alloc, bytes)?;
     match damage {
         Damage::None => {}
@@ -145,7 +145,7 @@ fn is_wanted(alloc: Global, bytes: &[u8], wanted: Result<&str, StoreError>) -> R
 #[test]
 fn loads_what_was_laid_out_by_hand(rt: HostRuntime) -> Result<(), Fail> {
     for (number, (bytes, damage, wanted)) in ROWS.iter().enumerate() {
-        let bytes = damaged(rt.alloc(), bytes, *damage)?;
+        let bytes = with_damage(rt.alloc(), bytes, *damage)?;
         assert!(rt; is_wanted(rt.alloc(), &bytes, *wanted)?, "row {number}");
     }
     Ok(())

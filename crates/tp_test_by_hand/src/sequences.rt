@@ -69,7 +69,7 @@ fn take<S: Sequence>(s: &mut S, step: Step) -> Result<bool, AllocError> {
     Ok(true)
 }
 
-/// Takes in the operations of an example in their order, each of which may come.
+/// Takes in the operations of an example in their order. Each of them may come.
 fn take_all<S: Sequence>(rt: &impl Abort, s: &mut S, names: &str) -> Result<(), AllocError> {
     for name in names.chars() {
         let taken = take(s, step_of(name))?;
@@ -129,7 +129,7 @@ fn count_orders(
         take_all(rt, &mut s, first)?;
         if take_by_code(&mut s, pool, code)? {
             assert!(rt; shows(&s, want), "in the order {code}");
-            assert!(rt; stands_by_chains(alloc, &s)?, "in the order {code}");
+            assert!(rt; present_by_chains(alloc, &s)?, "in the order {code}");
             orders += 1;
         }
     }
@@ -153,8 +153,8 @@ fn take_by_code<S: Sequence>(s: &mut S, pool: &[Step], code: u32) -> Result<bool
     Ok(rest == 0)
 }
 
-/// Whether the elements stand as the order by chains has them.
-fn stands_by_chains<S: Sequence>(alloc: Global, s: &S) -> Result<bool, AllocError> {
+/// Whether the elements are as the order by chains has them.
+fn present_by_chains<S: Sequence>(alloc: Global, s: &S) -> Result<bool, AllocError> {
     let mut inserts = Vec::new(alloc);
     for i in 0..s.all() {
         if let Some(e) = s.element(s.all() - 1 - i) {

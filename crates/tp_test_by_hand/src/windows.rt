@@ -1,5 +1,5 @@
-//! Windows on a document, by what a page says and is told. The hashes are those of Python's hashlib, over changes that were laid
-//! out by hand.
+//! Windows on a document, by what a page asks and is answered. The hashes are those of Python's hashlib, over changes
+//! that were laid out by hand.
 
 use std::alloc::{AllocError, Global};
 use std::test::Fail;
@@ -9,13 +9,13 @@ use tp_peer::Peer;
 use tp_window::Window;
 
 // A document without a change.
-fn begun(alloc: Global) -> Option<Peer<MemJournal>> {
+fn empty_peer(alloc: Global) -> Option<Peer<MemJournal>> {
     let journal = MemJournal::new(Vec::new(alloc));
     Peer::create(alloc, journal, DocId([7; 16]), Actor([1; 16])).ok()
 }
 
-// Whether a window is told this, and whether it is the last.
-fn told(
+// Whether a window is answered this, and whether it is the last.
+fn answers_so(
     alloc: Global,
     window: Window,
     peer: &mut Peer<MemJournal>,
@@ -32,10 +32,10 @@ fn told(
 #[test]
 fn two_write_at_once(rt: HostRuntime) -> Result<(), Fail> {
     let alloc = rt.alloc();
-    let mut peer = begun(alloc).ok_or("a peer")?;
+    let mut peer = empty_peer(alloc).ok_or("a peer")?;
     let (one, two) = (Window::new(Actor([2; 16])), Window::new(Actor([3; 16])));
     assert!(rt;
-        told(
+        answers_so(
             alloc,
             one,
             &mut peer,
@@ -45,7 +45,7 @@ fn two_write_at_once(rt: HostRuntime) -> Result<(), Fail> {
         )?
     );
     assert!(rt;
-        told(
+        answers_so(
             alloc,
             one,
             &mut peer,
@@ -55,7 +55,7 @@ fn two_write_at_once(rt: HostRuntime) -> Result<(), Fail> {
         )?
     );
     assert!(rt;
-        told(
+        answers_so(
             alloc,
             two,
             &mut peer,
@@ -65,7 +65,7 @@ fn two_write_at_once(rt: HostRuntime) -> Result<(), Fail> {
         )?
     );
     assert!(rt;
-        told(
+        answers_so(
             alloc,
             one,
             &mut peer,
@@ -75,7 +75,7 @@ fn two_write_at_once(rt: HostRuntime) -> Result<(), Fail> {
         )?
     );
     assert!(rt;
-        told(
+        answers_so(
             alloc,
             two,
             &mut peer,
@@ -85,7 +85,7 @@ fn two_write_at_once(rt: HostRuntime) -> Result<(), Fail> {
         )?
     );
     assert!(rt;
-        told(
+        answers_so(
             alloc,
             two,
             &mut peer,
@@ -95,7 +95,7 @@ fn two_write_at_once(rt: HostRuntime) -> Result<(), Fail> {
         )?
     );
     assert!(rt;
-        told(
+        answers_so(
             alloc,
             two,
             &mut peer,
@@ -105,7 +105,7 @@ fn two_write_at_once(rt: HostRuntime) -> Result<(), Fail> {
         )?
     );
     assert!(rt;
-        told(
+        answers_so(
             alloc,
             one,
             &mut peer,
@@ -115,7 +115,7 @@ fn two_write_at_once(rt: HostRuntime) -> Result<(), Fail> {
         )?
     );
     assert!(rt;
-        told(
+        answers_so(
             alloc,
             one,
             &mut peer,
@@ -131,7 +131,7 @@ fn two_write_at_once(rt: HostRuntime) -> Result<(), Fail> {
 #[test]
 fn a_wrong_request_ends_a_window(rt: HostRuntime) -> Result<(), Fail> {
     let alloc = rt.alloc();
-    let mut peer = begun(alloc).ok_or("a peer")?;
+    let mut peer = empty_peer(alloc).ok_or("a peer")?;
     let one = Window::new(Actor([2; 16]));
     for request in [
         "",
@@ -141,7 +141,7 @@ fn a_wrong_request_ends_a_window(rt: HostRuntime) -> Result<(), Fail> {
         r#"{"edit":{"heads":[],"splices":[{"at":-1,"del":0,"text":"x"}]}}"#,
     ] {
         assert!(rt;
-            told(
+            answers_so(
                 alloc,
                 one,
                 &mut peer,
@@ -152,7 +152,7 @@ fn a_wrong_request_ends_a_window(rt: HostRuntime) -> Result<(), Fail> {
         );
     }
     assert!(rt;
-        told(
+        answers_so(
             alloc,
             one,
             &mut peer,
@@ -162,7 +162,7 @@ fn a_wrong_request_ends_a_window(rt: HostRuntime) -> Result<(), Fail> {
         )?
     );
     assert!(rt;
-        told(
+        answers_so(
             alloc,
             one,
             &mut peer,
@@ -172,7 +172,7 @@ fn a_wrong_request_ends_a_window(rt: HostRuntime) -> Result<(), Fail> {
         )?
     );
     assert!(rt;
-        told(
+        answers_so(
             alloc,
             one,
             &mut peer,

@@ -24,7 +24,7 @@ const FOREIGN: [u8; 75] = [
 ];
 
 // What was replied, as one line.
-fn told(alloc: Global, reply: &Reply) -> Result<String, AllocError> {
+fn line_of_reply(alloc: Global, reply: &Reply) -> Result<String, AllocError> {
     match reply {
         Reply::Peer(n) => format!(in alloc; "peer {n}"),
         Reply::Wire(n) => format!(in alloc; "wire {n}"),
@@ -33,13 +33,13 @@ fn told(alloc: Global, reply: &Reply) -> Result<String, AllocError> {
         Reply::Answered(Answer::Merged(applied)) => {
             format!(in alloc; "applied {}", applied.applied.len())
         }
-        Reply::Answered(Answer::Alone(reply)) => told_own(alloc, reply),
+        Reply::Answered(Answer::Alone(reply)) => reported_own(alloc, reply),
         Reply::Refused(why) => format!(in alloc; "refused {why}"),
     }
 }
 
 // What a peer answered, as one line.
-fn told_own(alloc: Global, reply: &PeerReply) -> Result<String, AllocError> {
+fn reported_own(alloc: Global, reply: &PeerReply) -> Result<String, AllocError> {
     match reply {
         PeerReply::Made(Some(_)) => String::from_str(alloc, "made"),
         PeerReply::Made(None) => String::from_str(alloc, "nothing"),
@@ -54,7 +54,7 @@ fn told_own(alloc: Global, reply: &PeerReply) -> Result<String, AllocError> {
 }
 
 // The characters of the one list.
-fn listed(alloc: Global, world: &World) -> Result<String, Fail> {
+fn listed_text(alloc: Global, world: &World) -> Result<String, Fail> {
     let mut text = String::new(alloc);
     for (_, ch) in &world.order()? {
         text.push(*ch)?;
@@ -98,7 +98,7 @@ fn first_other(
     rows: &[(Event, &str)],
 ) -> Result<String, AllocError> {
     for (reply, (_, answer)) in replies.iter().zip(rows) {
-        let reply = told(alloc, reply)?;
+        let reply = line_of_reply(alloc, reply)?;
         if reply.as_str() != *answer {
             return Ok(reply);
         }
@@ -118,7 +118,7 @@ const THREE_FOUR: [Splice<'static>; 1] = [Splice {
     text: "34",
 }];
 
-// Behind the end.
+// Past the end.
 const FAR: [Splice<'static>; 1] = [Splice {
     at: 9,
     del: 0,
@@ -364,7 +364,7 @@ fn schedules(rt: HostRuntime) -> Result<(), Fail> {
             let mut world = World::new(rt.alloc(), DocId([0; 16]));
             let replies = replies_to(rt.alloc(), &mut world, schedule.rows, in_one_run)?;
             let other = first_other(rt.alloc(), &replies, schedule.rows)?;
-            let list = listed(rt.alloc(), &world)?;
+            let list = listed_text(rt.alloc(), &world)?;
             assert_eq!(rt; (replies.len(), other.as_str()), (schedule.rows.len(), ""));
             assert_eq!(rt; list.as_str(), schedule.list);
             assert_eq!(rt;

@@ -24,7 +24,7 @@ fn encode(changes: &Shelf<Change>, words: &mut Words) -> Result<String, Fault> {
 }
 
 // `copy NAME CHANGE`: a copy.
-fn copied(changes: &mut Shelf<Change>, words: &mut Words) -> Result<String, Fault> {
+fn keep_copy(changes: &mut Shelf<Change>, words: &mut Words) -> Result<String, Fault> {
     let name = words.next()?;
     let made = changes.get(words.next()?)?.copy();
     keep_change(changes, name, made)
@@ -47,9 +47,9 @@ pub fn call(
     words: &mut Words,
 ) -> Option<Result<String, Fault>> {
     Some(match word {
-        "decode" if words.left().len() > 1 => decode(changes, bytes, words),
+        "decode" if words.rest().len() > 1 => decode(changes, bytes, words),
         "encode" => encode(changes, words),
-        "copy" => copied(changes, words),
+        "copy" => keep_copy(changes, words),
         "hash" => hash(changes, words),
         _ => return None,
     })

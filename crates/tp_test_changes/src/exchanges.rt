@@ -22,7 +22,7 @@ fn exchange_named(
     answer
 }
 
-fn exchanged(changes: &Shelf<Change>, done: &Exchanged) -> Result<String, Fault> {
+fn line_of_exchange(changes: &Shelf<Change>, done: &Exchanged) -> Result<String, Fault> {
     let mut out = String::new(changes.alloc());
     put_applied(changes, &mut out, &done.into_a)?;
     out.push_str(", ")?;
@@ -38,7 +38,7 @@ fn exchanged(changes: &Shelf<Change>, done: &Exchanged) -> Result<String, Fault>
 pub fn call(world: &mut World, words: &mut Words) -> Result<String, Fault> {
     let (a, b) = (words.next()?, words.next()?);
     match exchange_named(world.alloc, &mut world.documents, a, b)? {
-        Ok(done) => exchanged(&world.changes, &done),
+        Ok(done) => line_of_exchange(&world.changes, &done),
         Err(error) => refusal(world.alloc, error),
     }
 }

@@ -17,8 +17,8 @@ fn numbers(alloc: Global, words: &[String]) -> Result<Vec<u8>, Fault> {
     Ok(all)
 }
 
-// These bytes, and zeros behind them.
-fn filled<const N: usize>(from: &[u8]) -> [u8; N] {
+// These bytes, and zeros after them.
+fn with_zeros<const N: usize>(from: &[u8]) -> [u8; N] {
     let mut bytes = [0; N];
     for (byte, number) in bytes.iter_mut().zip(from) {
         *byte = *number;
@@ -36,17 +36,17 @@ fn answer(alloc: Global, spelled: Result<String, HexError>) -> Result<String, Fa
 // `to_text KIND BYTE..`: the text of the identifier with these bytes.
 fn to_text(alloc: Global, words: &mut Words) -> Result<String, Fault> {
     let kind = words.next()?;
-    let bytes = numbers(alloc, words.left())?;
+    let bytes = numbers(alloc, words.rest())?;
     match kind {
-        "actor" => answer(alloc, Actor(filled(&bytes)).to_text(alloc)),
-        "document" => answer(alloc, DocId(filled(&bytes)).to_text(alloc)),
-        "hash" => answer(alloc, Hash(filled(&bytes)).to_text(alloc)),
+        "actor" => answer(alloc, Actor(with_zeros(&bytes)).to_text(alloc)),
+        "document" => answer(alloc, DocId(with_zeros(&bytes)).to_text(alloc)),
+        "hash" => answer(alloc, Hash(with_zeros(&bytes)).to_text(alloc)),
         _ => Err(Fault::Row("no such identifiers")),
     }
 }
 
 // Bytes as numbers, parted by blanks.
-fn listed(alloc: Global, bytes: &[u8]) -> Result<String, Fault> {
+fn numbers_of(alloc: Global, bytes: &[u8]) -> Result<String, Fault> {
     let mut out = String::new(alloc);
     for byte in bytes {
         let blank = if out.is_empty() { "" } else { " " };
@@ -57,21 +57,21 @@ fn listed(alloc: Global, bytes: &[u8]) -> Result<String, Fault> {
 
 fn actor_of(alloc: Global, text: &str) -> Result<String, Fault> {
     match Actor::from_text(text) {
-        Ok(actor) => listed(alloc, &actor.0),
+        Ok(actor) => numbers_of(alloc, &actor.0),
         Err(error) => refusal(alloc, error),
     }
 }
 
 fn document_of(alloc: Global, text: &str) -> Result<String, Fault> {
     match DocId::from_text(text) {
-        Ok(document) => listed(alloc, &document.0),
+        Ok(document) => numbers_of(alloc, &document.0),
         Err(error) => refusal(alloc, error),
     }
 }
 
 fn hash_of(alloc: Global, text: &str) -> Result<String, Fault> {
     match Hash::from_text(text) {
-        Ok(hash) => listed(alloc, &hash.0),
+        Ok(hash) => numbers_of(alloc, &hash.0),
         Err(error) => refusal(alloc, error),
     }
 }

@@ -1,12 +1,13 @@
 //! What bytes are decoded to, and what is shown of them.
 
-use crate::logs::shown;
+use crate::logs::show_log;
 use std::alloc::Global;
 use std::fmt::Display;
 use tp_change::Change;
 use tp_sync::Message;
 use tp_test_runner::{
-    Fault, Judge, Shelf, Words, altered, bytes, count, done, of_complements, of_cuts, refusal,
+    Fault, Judge, Shelf, Words, answer_ok, bytes, count, of_complements, of_cuts, refusal,
+    with_others_at,
 };
 
 /// What bytes are read as.
@@ -25,13 +26,13 @@ struct Reading {
 }
 
 /// `ok` where the bytes are spelled by just what they were decoded to.
-pub fn spelled<E: Display + Drop>(
+pub fn check_spelling<E: Display + Drop>(
     alloc: Global,
     again: Result<Vec<u8>, E>,
     bytes: &[u8],
 ) -> Result<String, Fault> {
     match again {
-        Ok(spelled) if spelled.as_slice() == bytes => done(alloc),
+        Ok(spelled) if spelled.as_slice() == bytes => answer_ok(alloc),
         Ok(_) => Ok(String::from_str(alloc, "spelled otherwise")?),
         Err(error) => refusal(alloc, error),
     }
@@ -39,14 +40,14 @@ pub fn spelled<E: Display + Drop>(
 
 fn change(alloc: Global, bytes: &[u8]) -> Result<String, Fault> {
     match Change::decode(alloc, bytes) {
-        Ok(change) => spelled(alloc, change.encode(), bytes),
+        Ok(change) => check_spelling(alloc, change.encode(), bytes),
         Err(error) => refusal(alloc, error),
     }
 }
 
 fn message(alloc: Global, bytes: &[u8]) -> Result<String, Fault> {
     match Message::decode(alloc, bytes) {
-        Ok(message) => spelled(alloc, message.encode(), bytes),
+        Ok(message) => check_spelling(alloc, message.encode(), bytes),
         Err(error) => refusal(alloc, error),
     }
 }
@@ -55,7 +56,7 @@ impl Judge for Reading {
     fn judge(&self, bytes: &[u8]) -> Result<String, Fault> {
         match self.format {
             Format::Change => change(self.alloc, bytes),
-            Format::Log => shown(self.alloc, bytes),
+            Format::Log => show_log(self.alloc, bytes),
             Format::Message => message(self.alloc, bytes),
         }
     }
@@ -65,7 +66,7 @@ impl Judge for Reading {
 fn of_altered(reading: Reading, whole: &[u8], words: &mut Words) -> Result<String, Fault> {
     let at = count(words.next()?)?;
     let others = bytes(reading.alloc, words.next()?)?;
-    let changed = altered(reading.alloc, whole, at, &others)?;
+    let changed = with_others_at(reading.alloc, whole, at, &others)?;
     reading.judge(&changed)
 }
 
@@ -79,7 +80,12 @@ fn format_of(word: &str) -> Option<Format> {
     }
 }
 
-fn judged(reading: Reading, whole: &[u8], word: &str, words: &mut Words) -> Result<String, Fault> {
+fn judge_by(
+    reading: Reading,
+    whole: &[u8],
+    word: &str,
+    words: &mut Words,
+) -> Result<String, Fault> {
     match word {
         "altered" => of_altered(reading, whole, words),
         "cuts" | "show_cuts" | "message_cuts" => of_cuts(reading.alloc, &reading, whole),
@@ -90,7 +96,7 @@ fn judged(reading: Reading, whole: &[u8], word: &str, words: &mut Words) -> Resu
     }
 }
 
-// The same of the bytes with the name.
+// What a reading of the bytes with the name answers.
 fn judged_named(
     shelf: &Shelf<Vec<u8>>,
     format: Format,
@@ -99,7 +105,7 @@ fn judged_named(
 ) -> Result<String, Fault> {
     let alloc = shelf.alloc();
     let whole = shelf.get(words.next()?)?;
-    judged(Reading { alloc, format }, whole, word, words)
+    judge_by(Reading { alloc, format }, whole, word, words)
 }
 
 /// Makes a call that reads bytes: `decode BYTES`, `altered BYTES AT HEX`, `cuts BYTES`, `complements BYTES` as a change,

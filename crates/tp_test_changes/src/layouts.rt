@@ -4,7 +4,7 @@ use crate::world::World;
 use std::alloc::Global;
 use tp_change::Change;
 use tp_opid::Hash;
-use tp_test_runner::{Fault, Shelf, Words, count, done, hashes, inside};
+use tp_test_runner::{Fault, Shelf, Words, answer_ok, count, hashes, inside};
 
 fn put_count(out: &mut Vec<u8>, count: usize) -> Result<(), Fault> {
     let count = u32::try_from(count).ok().ok_or(Fault::Row("too many"))?;
@@ -26,7 +26,7 @@ fn put_change(out: &mut Vec<u8>, change: &Change) -> Result<(), Fault> {
 }
 
 // How often a change is listed, and its name: `3*NAME`, or `NAME` for once.
-fn listed(item: &str) -> Result<(usize, &str), Fault> {
+fn times_and_name(item: &str) -> Result<(usize, &str), Fault> {
     match item.split_once('*') {
         Some((times, name)) => Ok((count(times)?, name)),
         None => Ok((1, item)),
@@ -44,7 +44,7 @@ fn put_often(out: &mut Vec<u8>, change: &Change, times: usize) -> Result<(), Fau
 fn put_changes(out: &mut Vec<u8>, changes: &Shelf<Change>, items: &str) -> Result<usize, Fault> {
     let mut total = 0usize;
     for item in items.split(',') {
-        let (times, name) = listed(item)?;
+        let (times, name) = times_and_name(item)?;
         put_often(out, changes.get(name)?, times)?;
         total = total.saturating_add(times);
     }
@@ -81,5 +81,5 @@ pub fn call(world: &mut World, version: u8, words: &mut Words) -> Result<String,
     let name = words.next()?;
     let bytes = laid_out(world.alloc, &world.changes, version, words)?;
     world.bytes.put(name, bytes)?;
-    done(world.alloc)
+    answer_ok(world.alloc)
 }

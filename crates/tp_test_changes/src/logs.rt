@@ -1,14 +1,14 @@
 //! Calls on logs and what is shown of them.
 
 use std::alloc::Global;
-use tp_test_runner::{Fault, Input, Output, Runs, Shelf, Words, count, quoted, refusal};
+use tp_test_runner::{Fault, Input, Output, Runs, Shelf, Words, count, in_quotes, refusal};
 use tp_textpeer::{Refusal, ShowError, show};
 
 // What was written, or the line of the refusal, and whether something was written before it.
 fn answer(alloc: Global, shown: Result<(), ShowError>, wrote: &[u8]) -> Result<String, Fault> {
     match shown {
         Ok(()) => match str::from_utf8(wrote) {
-            Ok(text) => quoted(alloc, text),
+            Ok(text) => in_quotes(alloc, text),
             Err(_) => Ok(String::from_str(alloc, "no text")?),
         },
         Err(error) => {
@@ -28,7 +28,7 @@ fn roomy(alloc: Global, log: &[u8]) -> Result<Vec<u8>, Fault> {
 }
 
 /// What is shown of a log.
-pub fn shown(alloc: Global, log: &[u8]) -> Result<String, Fault> {
+pub fn show_log(alloc: Global, log: &[u8]) -> Result<String, Fault> {
     let mut reader = log;
     let mut out = roomy(alloc, log)?;
     let shown = show(alloc, &mut reader, &mut out);

@@ -25,14 +25,14 @@ pub fn put_message(
     Ok(out.push_str(carried.as_str())?)
 }
 
-fn said(changes: &Shelf<Change>, message: &Message) -> Result<String, Fault> {
+fn line_of_message(changes: &Shelf<Change>, message: &Message) -> Result<String, Fault> {
     let mut out = String::new(changes.alloc());
     put_message(changes, &mut out, message)?;
     Ok(out)
 }
 
 /// The message as it comes out of its bytes.
-pub fn copied(alloc: Global, message: &Message) -> Result<Message, SyncError> {
+pub fn decode_again(alloc: Global, message: &Message) -> Result<Message, SyncError> {
     let bytes = message.encode()?;
     Message::decode(alloc, &bytes)
 }
@@ -51,7 +51,7 @@ fn decode(world: &mut World, words: &mut Words) -> Result<String, Fault> {
     let name = words.next()?;
     match Message::decode(world.alloc, world.bytes.get(words.next()?)?) {
         Ok(message) => {
-            let answer = said(&world.changes, &message)?;
+            let answer = line_of_message(&world.changes, &message)?;
             world.messages.put(name, message)?;
             Ok(answer)
         }

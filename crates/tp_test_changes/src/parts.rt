@@ -176,7 +176,7 @@ fn held_after(framer: &mut PartFramer) -> usize {
 }
 
 // How many bytes are held after each byte of the stream.
-fn held(shelf: &Shelf<Vec<u8>>, whole: &[u8]) -> Result<String, Fault> {
+fn held_lens(shelf: &Shelf<Vec<u8>>, whole: &[u8]) -> Result<String, Fault> {
     let alloc = shelf.alloc();
     let mut framer = PartFramer::new(alloc);
     let mut runs = Runs::new(alloc, 1);
@@ -188,7 +188,7 @@ fn held(shelf: &Shelf<Vec<u8>>, whole: &[u8]) -> Result<String, Fault> {
     runs.end()
 }
 
-// Feeds so many zeros; the most bytes that were held after any of their pieces.
+// Feeds `len` zeros; answers the most bytes that were held after any of their pieces.
 fn flood(framer: &mut PartFramer, len: usize) -> Result<usize, Fault> {
     let zeros = [0; FLOOD_LEN];
     let mut most = held_after(framer);
@@ -200,8 +200,8 @@ fn flood(framer: &mut PartFramer, len: usize) -> Result<usize, Fault> {
     Ok(most.max(held_after(framer)))
 }
 
-// `flood BYTES LEN`: what comes next after the bytes and then so many zeros, and how many bytes were held at most.
-fn flooded(shelf: &Shelf<Vec<u8>>, whole: &[u8], len: usize) -> Result<String, Fault> {
+// `flood BYTES LEN`: what comes next after the bytes and then `LEN` zeros, and how many bytes were held at most.
+fn flood_after(shelf: &Shelf<Vec<u8>>, whole: &[u8], len: usize) -> Result<String, Fault> {
     let mut framer = PartFramer::new(shelf.alloc());
     feed(&mut framer, whole)?;
     let most = flood(&mut framer, len)?;
@@ -221,7 +221,7 @@ pub fn parts(shelf: &Shelf<Vec<u8>>, word: &str, words: &mut Words) -> Result<St
         "parts" => in_one(shelf, whole),
         "joined" => by_byte(shelf, whole),
         "joined_parted" => at_each_place(shelf, whole),
-        "held" => held(shelf, whole),
-        _ => flooded(shelf, whole, count(words.next()?)?),
+        "held" => held_lens(shelf, whole),
+        _ => flood_after(shelf, whole, count(words.next()?)?),
     }
 }

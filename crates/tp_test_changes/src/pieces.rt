@@ -1,6 +1,6 @@
 //! Calls on messages whose bytes come in pieces.
 
-use crate::judges::spelled;
+use crate::judges::check_spelling;
 use std::alloc::Global;
 use tp_sync::{MessageReader, SyncError};
 use tp_test_runner::{Fault, Runs, Shelf, Words, count, refusal};
@@ -13,7 +13,7 @@ struct Course {
     refused: Option<SyncError>,
 }
 
-// A reader of a message of so many bytes, or the refusal.
+// A reader of a message of `total` bytes, or the refusal.
 fn reader(alloc: Global, total: usize) -> Result<Result<MessageReader, SyncError>, Fault> {
     let total = u32::try_from(total).ok().ok_or(Fault::Row("too long"))?;
     Ok(MessageReader::new(alloc, total))
@@ -52,10 +52,10 @@ fn end_of(alloc: Global, reader: MessageReader, bytes: &[u8]) -> Result<String, 
     if !reader.whole() {
         return Ok(String::from_str(alloc, "goes on")?);
     }
-    spelled(alloc, reader.finish().encode(), bytes)
+    check_spelling(alloc, reader.finish().encode(), bytes)
 }
 
-fn told(
+fn line_of_course(
     alloc: Global,
     reader: MessageReader,
     bytes: &[u8],
@@ -79,7 +79,7 @@ fn of_bytes(alloc: Global, bytes: &[u8], total: usize) -> Result<String, Fault> 
     match reader(alloc, total)? {
         Ok(mut reader) => {
             let course = by_byte(&mut reader, bytes);
-            told(alloc, reader, bytes, course)
+            line_of_course(alloc, reader, bytes, course)
         }
         Err(error) => refusal(alloc, error),
     }
@@ -119,9 +119,9 @@ fn answer(shelf: &Shelf<Vec<u8>>, word: &str, words: &mut Words) -> Result<Strin
     }
 }
 
-/// Makes a call that reads a message from pieces: `message_parted BYTES`, from two that are parted at each place, and
-/// `message_by_byte BYTES TOTAL`, as one that has so many bytes, with the most bytes that were held; `None` where the word
-/// is neither.
+/// Makes a call that reads a message from pieces: `message_parted BYTES`, from two that are cut at each place, and
+/// `message_by_byte BYTES TOTAL`, as one that has `TOTAL` bytes, with the most bytes that were held; `None` where the
+/// word is neither.
 pub fn call(
     shelf: &Shelf<Vec<u8>>,
     word: &str,

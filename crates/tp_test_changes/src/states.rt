@@ -1,17 +1,17 @@
 //! Calls on sync states: messages are made and received.
 
-use crate::messages::{copied, put_message};
+use crate::messages::{decode_again, put_message};
 use crate::world::{Doc, World};
 use tp_change::Change;
 use tp_document::Applied;
 use tp_sync::{Message, SyncError, SyncState, generate, receive, receive_with};
-use tp_test_runner::{Fault, Few, Shelf, Words, count, done, names, refusal, reply};
+use tp_test_runner::{Fault, Few, Shelf, Words, answer_ok, count, names, refusal, reply};
 
 // `state NAME`: a fresh one.
 fn make(states: &mut Shelf<SyncState>, words: &mut Words) -> Result<String, Fault> {
     let alloc = states.alloc();
     states.put(words.next()?, SyncState::new(alloc))?;
-    done(alloc)
+    answer_ok(alloc)
 }
 
 // `theirs STATE`: the heads that the other declared last, or `none`.
@@ -23,7 +23,7 @@ fn theirs(world: &World, words: &mut Words) -> Result<String, Fault> {
 }
 
 // What a message says, with `again` where it begins with the first change again.
-fn sent(changes: &Shelf<Change>, message: &Message, again: bool) -> Result<String, Fault> {
+fn line_of_sent(changes: &Shelf<Change>, message: &Message, again: bool) -> Result<String, Fault> {
     let mut out = String::new(changes.alloc());
     put_message(changes, &mut out, message)?;
     if again {
@@ -40,7 +40,7 @@ fn keep(
     message: Message,
     again: bool,
 ) -> Result<String, Fault> {
-    let answer = sent(changes, &message, again)?;
+    let answer = line_of_sent(changes, &message, again)?;
     messages.put(name, message)?;
     Ok(answer)
 }
@@ -74,13 +74,13 @@ fn receive_copy(
     }
 }
 
-// `receive DOCUMENT STATE MESSAGE`, or `receive_with KEPT DOCUMENT STATE MESSAGE`: the keeper keeps so many changes and
-// refuses those behind them. The document receives what comes out of the message's bytes, so that it can come again.
+// `receive DOCUMENT STATE MESSAGE`, or `receive_with KEPT DOCUMENT STATE MESSAGE`: the keeper keeps `KEPT` changes and
+// refuses those after them. The document receives what comes out of the message's bytes, so that it can come again.
 fn take(world: &mut World, left: Option<usize>, words: &mut Words) -> Result<String, Fault> {
     let alloc = world.alloc;
     let document = world.documents.get_mut(words.next()?)?;
     let state = world.states.get_mut(words.next()?)?;
-    let message = match copied(alloc, world.messages.get(words.next()?)?) {
+    let message = match decode_again(alloc, world.messages.get(words.next()?)?) {
         Ok(message) => message,
         Err(error) => return refusal(alloc, error),
     };

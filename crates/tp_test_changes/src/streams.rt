@@ -5,10 +5,10 @@ use crate::parts;
 use crate::world::World;
 use std::alloc::Global;
 use tp_frame::{FrameError, Framer, write_frame};
-use tp_test_runner::{Fault, Judge, Runs, Shelf, Words, done, keep_bytes, of_cuts, refusal};
+use tp_test_runner::{Fault, Judge, Runs, Shelf, Words, answer_ok, keep_bytes, of_cuts, refusal};
 
 // The bytes of the frame that a word spells.
-fn encoded(shelf: &Shelf<Vec<u8>>, word: &str) -> Result<Result<Vec<u8>, FrameError>, Fault> {
+fn frame_bytes(shelf: &Shelf<Vec<u8>>, word: &str) -> Result<Result<Vec<u8>, FrameError>, Fault> {
     let frame = frame(shelf, word)?;
     Ok(write_frame(shelf.alloc(), &frame))
 }
@@ -19,7 +19,7 @@ fn push_frame(
     whole: &mut Vec<u8>,
     word: &str,
 ) -> Result<Option<FrameError>, Fault> {
-    match encoded(shelf, word)? {
+    match frame_bytes(shelf, word)? {
         Ok(bytes) => {
             whole.extend_from_slice(&bytes)?;
             Ok(None)
@@ -32,7 +32,7 @@ fn push_frame(
 fn stream(world: &mut World, words: &mut Words) -> Result<String, Fault> {
     let name = words.next()?;
     let mut whole = Vec::new(world.alloc);
-    for word in words.left() {
+    for word in words.rest() {
         if let Some(error) = push_frame(&world.bytes, &mut whole, word.as_str())? {
             return refusal(world.alloc, error);
         }
@@ -40,7 +40,7 @@ fn stream(world: &mut World, words: &mut Words) -> Result<String, Fault> {
     keep_bytes(&mut world.bytes, name, whole)
 }
 
-/// Adds a blank behind what is there.
+/// Adds a blank after what is there.
 pub fn put_blank(out: &mut String) -> Result<(), Fault> {
     if !out.is_empty() {
         out.push(' ')?;
@@ -92,7 +92,7 @@ fn put_piece(
     Ok(())
 }
 
-/// What a row is told of a refused feed.
+/// What a row answers for a refused feed.
 pub fn fault_of(error: FrameError) -> Fault {
     match error {
         FrameError::OutOfMemory => Fault::Refused,
@@ -165,7 +165,7 @@ fn frames(shelf: &Shelf<Vec<u8>>, word: &str, words: &mut Words) -> Result<Strin
 fn feed(world: &mut World, words: &mut Words) -> Result<String, Fault> {
     let framer = world.framers.get_mut(words.next()?)?;
     match framer.feed(world.bytes.get(words.next()?)?) {
-        Ok(()) => done(world.alloc),
+        Ok(()) => answer_ok(world.alloc),
         Err(error) => refusal(world.alloc, error),
     }
 }
@@ -181,7 +181,7 @@ fn next(world: &mut World, words: &mut Words) -> Result<String, Fault> {
 // `framer NAME`: one that holds nothing.
 fn make(alloc: Global, framers: &mut Shelf<Framer>, words: &mut Words) -> Result<String, Fault> {
     framers.put(words.next()?, Framer::new(alloc))?;
-    done(alloc)
+    answer_ok(alloc)
 }
 
 /// Makes a call on frames; `None` where the word is none of these.

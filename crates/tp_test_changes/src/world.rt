@@ -83,7 +83,7 @@ fn alone(world: &mut World, word: &str, words: &mut Words) -> Option<Result<Stri
 }
 
 // Makes a call on what carries changes.
-fn carried(world: &mut World, word: &str, words: &mut Words) -> Result<String, Fault> {
+fn call_on_carriers(world: &mut World, word: &str, words: &mut Words) -> Result<String, Fault> {
     if let Some(answer) = documents::call(world, word, words) {
         return answer;
     }
@@ -114,7 +114,7 @@ impl Calls for World {
         if let Some(answer) = alone(self, word, words) {
             return answer;
         }
-        carried(self, word, words)
+        call_on_carriers(self, word, words)
     }
 
     fn clear(&mut self) {

@@ -17,7 +17,7 @@ fn id(counter: u64) -> OpId {
 }
 
 // Elements with the counters from 1 to the count, each inserted after the one before.
-fn filled(alloc: Global, count: u64) -> Result<BlockSequence, Fault> {
+fn chain_of(alloc: Global, count: u64) -> Result<BlockSequence, Fault> {
     let mut sequence = BlockSequence::new(alloc);
     for before in 0..count {
         let after = if before == 0 {
@@ -35,7 +35,7 @@ fn filled(alloc: Global, count: u64) -> Result<BlockSequence, Fault> {
     Ok(sequence)
 }
 
-// Deletes the first visible element so many times.
+// Deletes the first visible element `times` times.
 fn delete_first(sequence: &mut BlockSequence, times: u64) -> Result<(), Fault> {
     for _ in 0..times {
         let Some(target) = sequence.id_at(0) else {
@@ -60,7 +60,7 @@ fn put_block(out: &mut String, block: &BlockInfo) -> Result<(), Fault> {
 }
 
 // All blocks.
-fn shown(alloc: Global, sequence: &BlockSequence) -> Result<String, Fault> {
+fn list_blocks(alloc: Global, sequence: &BlockSequence) -> Result<String, Fault> {
     let mut out = String::new(alloc);
     for i in 0..sequence.block_count() {
         match sequence.block(i) {
@@ -71,14 +71,15 @@ fn shown(alloc: Global, sequence: &BlockSequence) -> Result<String, Fault> {
     Ok(out)
 }
 
-/// `blocks COUNT DELETED`: the blocks of so many elements, inserted at the end one by one, of which the first are deleted:
-/// of each the index of its first element, how many it has and how many are visible; then the block of the last element.
+/// `blocks COUNT DELETED`: the blocks of `COUNT` elements that are inserted at the end one by one, where the first
+/// `DELETED` are deleted: of each the index of its first element, how many it has and how many are visible; then the
+/// block of the last element.
 pub fn call(alloc: Global, words: &mut Words) -> Result<String, Fault> {
     let all = count(words.next()?)? as u64;
     let deleted = count(words.next()?)? as u64;
-    let mut sequence = filled(alloc, all)?;
+    let mut sequence = chain_of(alloc, all)?;
     delete_first(&mut sequence, deleted)?;
-    let blocks = shown(alloc, &sequence)?;
+    let blocks = list_blocks(alloc, &sequence)?;
     match sequence.block_of(&id(all)) {
         Some(last) => Ok(format!(in alloc; "{blocks} last {last}")?),
         None => Ok(blocks),

@@ -6,7 +6,7 @@ use std::alloc::Global;
 use std::fmt::Write;
 use tp_document::{Difference, DocError, Document};
 use tp_rga::Sequence;
-use tp_test_runner::{Fault, Words, quoted, refusal};
+use tp_test_runner::{Fault, Words, in_quotes, refusal};
 
 /// How many differences are printed; of more than these the number is.
 const MOST_DIFFERENCES: usize = 12;
@@ -14,7 +14,7 @@ const MOST_DIFFERENCES: usize = 12;
 // Adds one as the splice of an edit is written.
 fn put_difference(alloc: Global, out: &mut String, difference: &Difference) -> Result<(), Fault> {
     let splice = difference.splice();
-    let text = quoted(alloc, splice.text)?;
+    let text = in_quotes(alloc, splice.text)?;
     write!(out, "{},{},{text}", splice.at, splice.del)?;
     Ok(())
 }
@@ -80,7 +80,7 @@ pub fn effect<S: Sequence>(
         Ok(effect) => effect,
         Err(error) => return refusal(world.alloc, error),
     };
-    let mut out = quoted(world.alloc, &effect.text)?;
+    let mut out = in_quotes(world.alloc, &effect.text)?;
     out.push(' ')?;
     out.push_str(&print_all(world.alloc, &effect.differences)?)?;
     Ok(out)

@@ -6,7 +6,7 @@ use std::alloc::Global;
 use tp_change::Change;
 use tp_document::Document;
 use tp_rga::Sequence;
-use tp_test_runner::{Fault, Shelf, Words, copy, count, done, keep_document, refusal};
+use tp_test_runner::{Fault, Shelf, Words, answer_ok, copy, count, keep_document, refusal};
 
 // `fork_at NEW DOCUMENT HASHES`.
 fn fork_at<S: Sequence>(world: &mut World<S>, words: &mut Words) -> Result<String, Fault> {
@@ -28,7 +28,7 @@ fn name<S: Sequence>(
     let at = count(words.next()?)?;
     let change = copy(there.get(at).ok_or(Fault::Row("there is no change"))?)?;
     changes.put(name, change)?;
-    done(changes.alloc())
+    answer_ok(changes.alloc())
 }
 
 // `forget DOCUMENT`: drops what waits.
@@ -37,7 +37,7 @@ fn forget<S: Sequence>(
     words: &mut Words,
 ) -> Result<String, Fault> {
     documents.get_mut(words.next()?)?.forget_pending();
-    done(documents.alloc())
+    answer_ok(documents.alloc())
 }
 
 // `enter DOCUMENT CHANGE`: `ready`, and then `enter`.
@@ -49,10 +49,10 @@ fn enter<S: Sequence>(
     let alloc = changes.alloc();
     let document = documents.get_mut(words.next()?)?;
     let change = copy(changes.get(words.next()?)?)?;
-    entered(alloc, document, change)
+    enter_ready(alloc, document, change)
 }
 
-fn entered<S: Sequence>(
+fn enter_ready<S: Sequence>(
     alloc: Global,
     document: &mut Document<S>,
     change: Change,
@@ -60,7 +60,7 @@ fn entered<S: Sequence>(
     match document.ready(&change) {
         Ok(()) => {
             document.enter(change);
-            done(alloc)
+            answer_ok(alloc)
         }
         Err(error) => refusal(alloc, error),
     }

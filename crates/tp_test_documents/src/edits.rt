@@ -6,15 +6,17 @@ use tp_change::Change;
 use tp_document::{DocError, Document};
 use tp_opid::Actor;
 use tp_rga::Sequence;
-use tp_test_runner::{Fault, Request, Shelf, Words, actor, done, lent, refusal, request_of};
+use tp_test_runner::{
+    Fault, Request, Shelf, Words, actor, answer_ok, lend_splices, refusal, request_of,
+};
 
-fn made<S: Sequence>(
+fn make_asked<S: Sequence>(
     alloc: Global,
     document: &Document<S>,
     actor: Actor,
     asked: &Request,
 ) -> Result<Result<Option<Change>, DocError>, Fault> {
-    let splices = lent(alloc, &asked.splices)?;
+    let splices = lend_splices(alloc, &asked.splices)?;
     Ok(document.make_edit(actor, &splices, asked.time, asked.message.as_str()))
 }
 
@@ -28,7 +30,7 @@ fn keep(
     match made {
         Ok(Some(change)) => {
             changes.put(name, change)?;
-            done(alloc)
+            answer_ok(alloc)
         }
         Ok(None) => Ok(String::from_str(alloc, "nothing")?),
         Err(error) => refusal(alloc, error),
@@ -42,7 +44,7 @@ fn make<S: Sequence>(
 ) -> Result<Result<Option<Change>, DocError>, Fault> {
     let actor = actor(words.next()?)?;
     let asked = request_of(alloc, words)?;
-    made(alloc, document, actor, &asked)
+    make_asked(alloc, document, actor, &asked)
 }
 
 /// `make_edit NAME DOCUMENT ACTOR ..`: the change that the edit would enter.

@@ -4,7 +4,7 @@ use crate::world::World;
 use std::alloc::Global;
 use tp_change::{Change, Op};
 use tp_rga::{Element, Sequence};
-use tp_test_runner::{Fault, Shelf, Words, done, put_id, range};
+use tp_test_runner::{Fault, Shelf, Words, answer_ok, put_id, range};
 
 /// Puts an operation into a sequence that has what it refers to.
 pub fn put_op<S: Sequence>(sequence: &mut S, op: Op) -> Result<(), Fault> {
@@ -45,10 +45,10 @@ fn sequence<S: Sequence>(world: &mut World<S>, words: &mut Words) -> Result<Stri
     let changes = world.documents.get(words.next()?)?.changes();
     let made = sequence_of(world.alloc, changes)?;
     world.sequences.put(name, made)?;
-    done(world.alloc)
+    answer_ok(world.alloc)
 }
 
-// Adds an element: its identifier and character, behind `-` where it is deleted.
+// Adds an element: its identifier and character, after `-` where it is deleted.
 fn put_element(out: &mut String, element: &Element) -> Result<(), Fault> {
     if !out.is_empty() {
         out.push(' ')?;

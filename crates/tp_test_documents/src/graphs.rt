@@ -6,14 +6,14 @@ use tp_change::Change;
 use tp_graph::Graph;
 use tp_rga::Sequence;
 use tp_test_runner::{
-    Fault, Shelf, Words, actor, copy, count, done, hashes, names, names_of, refusal,
+    Fault, Shelf, Words, actor, answer_ok, copy, count, hashes, names, names_of, refusal,
 };
 
 // `graph NAME`: a graph with no changes.
 fn make(graphs: &mut Shelf<Graph>, words: &mut Words) -> Result<String, Fault> {
     let alloc = graphs.alloc();
     graphs.put(words.next()?, Graph::new(alloc))?;
-    done(alloc)
+    answer_ok(alloc)
 }
 
 // `add GRAPH CHANGE`: the place in applied order.
@@ -35,7 +35,7 @@ fn hold(alloc: Global, graph: &mut Graph, change: Change) -> Result<String, Faul
         return Ok(String::from_str(alloc, "no place")?);
     }
     match graph.hold(change) {
-        Ok(()) => done(alloc),
+        Ok(()) => answer_ok(alloc),
         Err(rejected) => refusal(alloc, rejected.error),
     }
 }
@@ -49,7 +49,7 @@ fn enter_waiting(alloc: Global, graph: &mut Graph, i: usize) -> Result<String, F
         Ok(()) => {
             let change = graph.release(i);
             graph.enter(change);
-            done(alloc)
+            answer_ok(alloc)
         }
         Err(error) => refusal(alloc, error),
     }
@@ -105,7 +105,7 @@ pub fn call<S: Sequence>(
 // `check GRAPH CHANGE`.
 fn check(graph: &Graph, changes: &Shelf<Change>, words: &mut Words) -> Result<String, Fault> {
     match graph.check(changes.get(words.next()?)?) {
-        Ok(()) => done(changes.alloc()),
+        Ok(()) => answer_ok(changes.alloc()),
         Err(error) => refusal(changes.alloc(), error),
     }
 }

@@ -8,7 +8,9 @@ use tp_change::Change;
 use tp_document::Document;
 use tp_opid::Hash;
 use tp_rga::Sequence;
-use tp_test_runner::{Fault, Words, answer_position, answer_text, count, done, names, refusal};
+use tp_test_runner::{
+    Fault, Words, answer_ok, answer_position, answer_text, count, names, refusal,
+};
 
 // `text_at DOCUMENT HASHES`.
 fn text_at<S: Sequence>(
@@ -91,8 +93,8 @@ fn check<S: Sequence>(
     world: &World<S>,
     words: &mut Words,
 ) -> Result<String, Fault> {
-    match document.check(world.changes.get(words.next()?)?) {
-        Ok(()) => done(world.alloc),
+    match document.graph().check(world.changes.get(words.next()?)?) {
+        Ok(()) => answer_ok(world.alloc),
         Err(error) => refusal(world.alloc, error),
     }
 }

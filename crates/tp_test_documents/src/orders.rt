@@ -8,7 +8,7 @@ use tp_opid::DocId;
 use tp_rga::Sequence;
 use tp_test_runner::{Fault, Words, copies, copy, refusal, text_of};
 
-fn copied(alloc: Global, all: &[Change]) -> Result<Vec<Change>, Fault> {
+fn copies_of(alloc: Global, all: &[Change]) -> Result<Vec<Change>, Fault> {
     let mut made = Vec::new(alloc);
     for change in all {
         made.push(copy(change)?)?;
@@ -17,8 +17,8 @@ fn copied(alloc: Global, all: &[Change]) -> Result<Vec<Change>, Fault> {
 }
 
 // The changes in their order number `turn`: at each step the number says which of those that are left comes.
-fn ordered(alloc: Global, all: &[Change], turn: usize) -> Result<Vec<Change>, Fault> {
-    let mut left = copied(alloc, all)?;
+fn in_order(alloc: Global, all: &[Change], turn: usize) -> Result<Vec<Change>, Fault> {
+    let mut left = copies_of(alloc, all)?;
     let mut made = Vec::new(alloc);
     let mut turn = turn;
     for _ in all {
@@ -31,7 +31,7 @@ fn ordered(alloc: Global, all: &[Change], turn: usize) -> Result<Vec<Change>, Fa
     Ok(made)
 }
 
-// How many orders so many changes have; at most 8 of them, for whose orders there is time.
+// How many orders the changes have; at most 8 changes, for whose orders there is time.
 fn order_count(changes: usize) -> Result<usize, Fault> {
     match changes {
         0 | 1 => Ok(1),
@@ -89,7 +89,7 @@ fn text_in_order<S: Sequence>(
     turn: usize,
     at_once: bool,
 ) -> Result<String, Fault> {
-    let came = ordered(alloc, all, turn)?;
+    let came = in_order(alloc, all, turn)?;
     let mut document: Document<S> = Document::new(alloc, DocId([7; 16]));
     if at_once {
         text_at_once(alloc, &mut document, came)

@@ -32,7 +32,7 @@ fn apply_some<S: Sequence>(
 }
 
 // `apply ON CHANGES`, where a graph receives with a keeper that never refuses, or `apply_with KEPT ON CHANGES`: the
-// keeper keeps so many changes and refuses those behind them.
+// keeper keeps `KEPT` changes and refuses those after them.
 fn apply<S: Sequence>(
     world: &mut World<S>,
     left: Option<usize>,

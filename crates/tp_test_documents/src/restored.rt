@@ -4,7 +4,7 @@ use crate::saved::journal_of;
 use crate::world::World;
 use std::alloc::Global;
 use tp_document::Document;
-use tp_journal::{Recovered, Recovering, recover};
+use tp_recovery::{Recovered, Recovering, recover};
 use tp_rga::Sequence;
 use tp_store::{StoreError, load, save};
 use tp_test_runner::{Fault, Judge, of_complements, of_cuts, refusal, text_of};
@@ -18,7 +18,7 @@ struct Restorer<'a, S: Sequence> {
 }
 
 // A refusal by its name, with the offset or the cause that it has.
-fn refused(alloc: Global, error: StoreError) -> Result<String, Fault> {
+fn name_of_refusal(alloc: Global, error: StoreError) -> Result<String, Fault> {
     match error {
         StoreError::Damaged { at } => Ok(format!(in alloc; "Damaged at {at}")?),
         StoreError::Refused(cause) => Ok(format!(in alloc; "Refused {cause}")?),
@@ -35,14 +35,14 @@ fn saved_again<S: Sequence>(
     match save(alloc, document) {
         Ok(saved) if saved.as_slice() == bytes => text_of(alloc, document),
         Ok(_) => Ok(String::from_str(alloc, "saved otherwise")?),
-        Err(error) => refused(alloc, error),
+        Err(error) => name_of_refusal(alloc, error),
     }
 }
 
-fn loaded<S: Sequence>(alloc: Global, bytes: &[u8]) -> Result<String, Fault> {
+fn load_outcome<S: Sequence>(alloc: Global, bytes: &[u8]) -> Result<String, Fault> {
     match load::<S>(alloc, bytes) {
         Ok(document) => saved_again(alloc, &document, bytes),
-        Err(error) => refused(alloc, error),
+        Err(error) => name_of_refusal(alloc, error),
     }
 }
 
@@ -72,29 +72,29 @@ fn kept_again<S: Sequence>(
 }
 
 // What was recovered of the bytes, or why it wasn't.
-fn told<S: Sequence>(
+fn recovery_outcome<S: Sequence>(
     alloc: Global,
     recovered: Result<Recovered<S>, StoreError>,
     bytes: &[u8],
 ) -> Result<String, Fault> {
     match recovered {
         Ok(recovered) => kept_again(alloc, &recovered, bytes),
-        Err(error) => refused(alloc, error),
+        Err(error) => name_of_refusal(alloc, error),
     }
 }
 
-// The same where they come in pieces of so many bytes, one at least.
+// What was recovered of the bytes, where they come in pieces of `size` bytes, one at least.
 fn recovered_by<S: Sequence>(alloc: Global, bytes: &[u8], size: usize) -> Result<String, Fault> {
     let mut recovering = Recovering::<S>::new(alloc);
     for piece in bytes.chunks(size.max(1)) {
         recovering.feed(piece);
     }
-    told(alloc, recovering.finish(), bytes)
+    recovery_outcome(alloc, recovering.finish(), bytes)
 }
 
 // What the bytes recover to, which is the same where they come in pieces.
-fn recovered<S: Sequence>(alloc: Global, bytes: &[u8]) -> Result<String, Fault> {
-    let whole = told(alloc, recover::<S>(alloc, bytes), bytes)?;
+fn recover_outcome<S: Sequence>(alloc: Global, bytes: &[u8]) -> Result<String, Fault> {
+    let whole = recovery_outcome(alloc, recover::<S>(alloc, bytes), bytes)?;
     for size in [1, 7, 64] {
         let pieces = recovered_by::<S>(alloc, bytes, size)?;
         if pieces.as_str() != whole.as_str() {
@@ -107,9 +107,9 @@ fn recovered<S: Sequence>(alloc: Global, bytes: &[u8]) -> Result<String, Fault> 
 impl<S: Sequence> Judge for Restorer<'_, S> {
     fn judge(&self, bytes: &[u8]) -> Result<String, Fault> {
         if self.is_journal {
-            recovered::<S>(self.world.alloc, bytes)
+            recover_outcome::<S>(self.world.alloc, bytes)
         } else {
-            loaded::<S>(self.world.alloc, bytes)
+            load_outcome::<S>(self.world.alloc, bytes)
         }
     }
 }

@@ -4,11 +4,11 @@ use crate::world::World;
 use std::alloc::Global;
 use tp_change::Change;
 use tp_document::Document;
-use tp_journal::{header, put_record, record};
 use tp_opid::DocId;
+use tp_recovery::{header, put_record, record};
 use tp_rga::Sequence;
 use tp_store::{StoreError, save};
-use tp_test_runner::{Fault, Words, copies, document_id, done, refusal};
+use tp_test_runner::{Fault, Words, answer_ok, copies, document_id, refusal};
 
 /// Why what has no refusal but for want of memory was refused.
 pub fn fault_of(error: StoreError) -> Fault {
@@ -32,7 +32,7 @@ fn document_of<S: Sequence>(
     }
 }
 
-// The bytes with the records of the changes behind them.
+// The bytes with the records of the changes after them.
 fn put_records(bytes: Vec<u8>, changes: &[Change]) -> Result<Vec<u8>, Fault> {
     let mut bytes = bytes;
     for change in changes {
@@ -76,17 +76,17 @@ fn make<S: Sequence>(
     let name = words.next()?;
     let made = bytes_of(world.alloc, &document(world, words)?, is_journal)?;
     world.bytes.put(name, made)?;
-    done(world.alloc)
+    answer_ok(world.alloc)
 }
 
-// `records NAME OF CHANGES`: the bytes with the records of the changes behind them.
+// `records NAME OF CHANGES`: the bytes with the records of the changes after them.
 fn records<S: Sequence>(world: &mut World<S>, words: &mut Words) -> Result<String, Fault> {
     let name = words.next()?;
     let bytes = Vec::from_slice(world.alloc, world.bytes.get(words.next()?)?)?;
     let changes = copies(&world.changes, &world.documents, words.next()?)?;
     let bytes = put_records(bytes, &changes)?;
     world.bytes.put(name, bytes)?;
-    done(world.alloc)
+    answer_ok(world.alloc)
 }
 
 // `record NAME CHANGE`: the bytes of the change's record.
@@ -95,7 +95,7 @@ fn keep_record<S: Sequence>(world: &mut World<S>, words: &mut Words) -> Result<S
     let change = world.changes.get(words.next()?)?;
     let bytes = record(world.alloc, change).map_err(fault_of)?;
     world.bytes.put(name, bytes)?;
-    done(world.alloc)
+    answer_ok(world.alloc)
 }
 
 fn sizes_of<S: Sequence>(alloc: Global, document: &Document<S>) -> Result<String, Fault> {

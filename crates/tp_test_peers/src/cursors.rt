@@ -1,4 +1,4 @@
-//! Calls that make cursors in a peer's document, and say where they stand.
+//! Calls that make cursors in a peer's document, and say where they are.
 
 use crate::world::World;
 use tp_test_runner::{Fault, Words, answer_position, count, hashes, keep_cursor};

@@ -4,14 +4,14 @@ use crate::world::{RowPeer, World};
 use std::alloc::Global;
 use tp_opid::Hash;
 use tp_peer::PeerError;
-use tp_test_runner::{Fault, Request, Words, lent, name_last, refusal, request_of};
+use tp_test_runner::{Fault, Request, Words, lend_splices, name_last, refusal, request_of};
 
-fn edited(
+fn edit_asked(
     alloc: Global,
     peer: &mut RowPeer,
     asked: &Request,
 ) -> Result<Result<Option<Hash>, PeerError>, Fault> {
-    let splices = lent(alloc, &asked.splices)?;
+    let splices = lend_splices(alloc, &asked.splices)?;
     Ok(peer.edit(&splices, asked.time, asked.message.as_str()))
 }
 
@@ -19,7 +19,7 @@ fn edited(
 pub fn call(world: &mut World, words: &mut Words) -> Result<String, Fault> {
     let peer = world.peers.get_mut(words.next()?)?;
     let asked = request_of(world.alloc, words)?;
-    match edited(world.alloc, peer, &asked)? {
+    match edit_asked(world.alloc, peer, &asked)? {
         Ok(Some(_)) => name_last(&mut world.changes, peer.document().changes(), asked.name),
         Ok(None) => Ok(String::from_str(world.alloc, "nothing")?),
         Err(error) => refusal(world.alloc, error),

@@ -7,7 +7,7 @@ use std::fmt::Display;
 use tp_change::Change;
 use tp_peer::{Link, Outgoing, PeerError, Received};
 use tp_sync::Message;
-use tp_test_runner::{Fault, Shelf, Words, done, number, refusal};
+use tp_test_runner::{Fault, Shelf, Words, answer_ok, number, refusal};
 
 fn link(words: &mut Words) -> Result<Link, Fault> {
     Ok(Link(number(words.next()?)?))
@@ -82,7 +82,7 @@ fn receive_message(world: &mut World, words: &mut Words) -> Result<String, Fault
 fn forget(world: &mut World, words: &mut Words) -> Result<String, Fault> {
     let peer = world.peers.get_mut(words.next()?)?;
     match peer.forget_link(link(words)?) {
-        Ok(()) => done(world.alloc),
+        Ok(()) => answer_ok(world.alloc),
         Err(error) => refusal(world.alloc, error),
     }
 }
@@ -94,7 +94,7 @@ fn greet_each(alloc: Global, peer: &mut RowPeer, count: u64) -> Result<String, F
             Err(error) => return refusal(alloc, error),
         }
     }
-    done(alloc)
+    answer_ok(alloc)
 }
 
 // `greet PEER N`: makes a message on each of the links 0 to N - 1.

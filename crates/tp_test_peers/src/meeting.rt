@@ -2,7 +2,7 @@
 
 use crate::answers::end;
 use crate::reads::text;
-use crate::running::forked;
+use crate::running::fork_of;
 use crate::world::{RowPeer, World};
 use std::alloc::Global;
 use tp_frame::{Frame, write_frame};
@@ -20,7 +20,7 @@ struct Side<'a> {
 }
 
 // A side at its begin.
-fn begun(alloc: Global, peer: &mut RowPeer, role: Role) -> Side<'_> {
+fn first_side(alloc: Global, peer: &mut RowPeer, role: Role) -> Side<'_> {
     let session = Session::new(role, peer.document().id());
     Side {
         peer,
@@ -81,7 +81,7 @@ fn exchange(alloc: Global, client: &mut Side, server: &mut Side) -> Result<(), F
 fn outcome(side: &Side) -> Result<u64, NetError> {
     match (side.error, side.session.phase()) {
         (Some(error), _) => Err(error),
-        (None, Phase::Over) => Ok(side.session.applied()),
+        (None, Phase::Over) => Ok(side.session.applied_count()),
         (None, _) => Err(NetError::Io),
     }
 }
@@ -98,14 +98,14 @@ fn both(shelf: &Shelf<Vec<u8>>, client: &Side, server: &Side) -> Result<String, 
     Ok(out)
 }
 
-// The sides behind a session between the peers.
-fn met<'a>(
+// The sides after a session between the peers.
+fn hold_session<'a>(
     alloc: Global,
     client: &'a mut RowPeer,
     server: &'a mut RowPeer,
 ) -> Result<(Side<'a>, Side<'a>), Fault> {
-    let mut client = begun(alloc, client, Role::Client);
-    let mut server = begun(alloc, server, Role::Server);
+    let mut client = first_side(alloc, client, Role::Client);
+    let mut server = first_side(alloc, server, Role::Server);
     exchange(alloc, &mut client, &mut server)?;
     Ok((client, server))
 }
@@ -115,7 +115,7 @@ fn hold(
     client: &mut RowPeer,
     server: &mut RowPeer,
 ) -> Result<String, Fault> {
-    let (client, server) = met(shelf.alloc(), client, server)?;
+    let (client, server) = hold_session(shelf.alloc(), client, server)?;
     both(shelf, &client, &server)
 }
 
@@ -125,7 +125,7 @@ fn hold_with(
     client: &mut RowPeer,
     server: &RowPeer,
 ) -> Result<String, Fault> {
-    let mut server = forked(shelf.alloc(), server)?;
+    let mut server = fork_of(shelf.alloc(), server)?;
     hold(shelf, client, &mut server)
 }
 
@@ -135,12 +135,12 @@ fn hold_between(
     client: &RowPeer,
     server: &RowPeer,
 ) -> Result<String, Fault> {
-    let mut client = forked(shelf.alloc(), client)?;
+    let mut client = fork_of(shelf.alloc(), client)?;
     hold_with(shelf, &mut client, server)
 }
 
 // The text that both read, whose sessions have ended well.
-fn agreed(alloc: Global, client: &Side, server: &Side) -> Result<String, Fault> {
+fn text_of_both(alloc: Global, client: &Side, server: &Side) -> Result<String, Fault> {
     let (read, other) = (text(alloc, client.peer)?, text(alloc, server.peer)?);
     if outcome(client).is_ok() && outcome(server).is_ok() && read.as_str() == other.as_str() {
         return Ok(read);
@@ -148,10 +148,10 @@ fn agreed(alloc: Global, client: &Side, server: &Side) -> Result<String, Fault> 
     Err(Fault::Row("a second session doesn't mend it"))
 }
 
-/// The text that both peers read behind a session between them.
+/// The text that both peers read after a session between them.
 pub fn agree(alloc: Global, client: &mut RowPeer, server: &mut RowPeer) -> Result<String, Fault> {
-    let (client, server) = met(alloc, client, server)?;
-    agreed(alloc, &client, &server)
+    let (client, server) = hold_session(alloc, client, server)?;
+    text_of_both(alloc, &client, &server)
 }
 
 /// `meet CLIENT SERVER`: how each side ends, the client first.

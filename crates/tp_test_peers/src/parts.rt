@@ -113,7 +113,9 @@ impl Side {
         self.note();
         match stopped {
             Some(error) => Ok(Some(Err(error))),
-            None if self.session.phase() == Phase::Over => Ok(Some(Ok(self.session.applied()))),
+            None if self.session.phase() == Phase::Over => Ok(Some(Ok(
+                self.session.applied_count(),
+            ))),
             None => Ok(None),
         }
     }

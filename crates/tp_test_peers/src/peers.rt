@@ -9,7 +9,7 @@ use tp_journal::{FuseJournal, MemJournal, header, put_record};
 use tp_opid::{Actor, DocId};
 use tp_peer::{Peer, PeerError, Unopened};
 use tp_test_runner::{
-    Fault, Runs, Shelf, Words, actor, count, document_id, done, firsts, keep_bytes, number,
+    Fault, Runs, Shelf, Words, actor, answer_ok, count, document_id, firsts, keep_bytes, number,
     put_kept, put_name, range, refusal,
 };
 
@@ -44,7 +44,7 @@ fn keep(
     match made {
         Ok(peer) => {
             peers.put(name, peer)?;
-            done(alloc)
+            answer_ok(alloc)
         }
         Err(Unopened { journal, error }) => {
             let left = journal.len();
@@ -92,7 +92,7 @@ fn journal_with(alloc: Global, id: DocId, changes: &[Change]) -> Result<Vec<u8>,
 }
 
 // `branches NAME FROM..TO [id=ID]`: names the bytes of a journal with the first changes of the actors with the numbers from
-// `FROM` up to, but without, `TO`, each of which inserts one character.
+// `FROM` up to, but without, `TO`. Each change inserts one character.
 fn branches(world: &mut World, words: &mut Words) -> Result<String, Fault> {
     let name = words.next()?;
     let (from, to) = range(words.next()?)?;
@@ -148,18 +148,18 @@ fn created_anew(alloc: Global, actor: Actor, kept: u64) -> Result<String, Fault>
 fn arm(world: &mut World, words: &mut Words) -> Result<String, Fault> {
     let peer = world.peers.get_mut(words.next()?)?;
     peer.arm(number(words.next()?)?);
-    done(world.alloc)
+    answer_ok(world.alloc)
 }
 
 // `arm_cut PEER`: its journal's next cut fails. `disarm PEER`: neither fails.
 fn arm_cut(world: &mut World, words: &mut Words) -> Result<String, Fault> {
     world.peers.get_mut(words.next()?)?.arm_cut();
-    done(world.alloc)
+    answer_ok(world.alloc)
 }
 
 fn disarm(world: &mut World, words: &mut Words) -> Result<String, Fault> {
     world.peers.get_mut(words.next()?)?.disarm();
-    done(world.alloc)
+    answer_ok(world.alloc)
 }
 
 // `journal_len PEER`: how many bytes its journal has.
@@ -169,7 +169,7 @@ fn journal_len(world: &World, words: &mut Words) -> Result<String, Fault> {
 }
 
 // Takes a peer out, and ends it: its journal's bytes.
-fn ended(peers: &mut Shelf<RowPeer>, name: &str) -> Result<Vec<u8>, Fault> {
+fn stop_peer(peers: &mut Shelf<RowPeer>, name: &str) -> Result<Vec<u8>, Fault> {
     let (_name, peer) = peers.take(name)?;
     Ok(peer.stop().into_vec())
 }
@@ -177,7 +177,7 @@ fn ended(peers: &mut Shelf<RowPeer>, name: &str) -> Result<Vec<u8>, Fault> {
 // `stop PEER BYTES`: ends the peer, and gives its journal's bytes a name.
 fn stop(world: &mut World, words: &mut Words) -> Result<String, Fault> {
     let (name, bytes) = (words.next()?, words.next()?);
-    let journal = ended(&mut world.peers, name)?;
+    let journal = stop_peer(&mut world.peers, name)?;
     keep_bytes(&mut world.bytes, bytes, journal)
 }
 

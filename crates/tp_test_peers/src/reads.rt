@@ -6,11 +6,11 @@ use rand_core::SeedableRng;
 use std::alloc::Global;
 use tp_opid::Actor;
 use tp_peer::{PeerError, fresh_actor};
-use tp_test_runner::{Fault, Words, byte, hashes, names, names_of, quoted, refusal};
+use tp_test_runner::{Fault, Words, byte, hashes, in_quotes, names, names_of, refusal};
 
 fn answer_text(alloc: Global, answer: Result<String, PeerError>) -> Result<String, Fault> {
     match answer {
-        Ok(text) => quoted(alloc, text.as_str()),
+        Ok(text) => in_quotes(alloc, text.as_str()),
         Err(error) => refusal(alloc, error),
     }
 }

@@ -43,7 +43,7 @@ fn role(word: &str) -> Result<Role, Fault> {
 }
 
 // `ROLE PEER BYTES [PEER]`.
-fn planned<'a>(world: &'a World, words: &mut Words) -> Result<Plan<'a>, Fault> {
+fn plan_of<'a>(world: &'a World, words: &mut Words) -> Result<Plan<'a>, Fault> {
     Ok(Plan {
         shelf: &world.bytes,
         role: role(words.next()?)?,
@@ -57,7 +57,7 @@ fn planned<'a>(world: &'a World, words: &mut Words) -> Result<Plan<'a>, Fault> {
 }
 
 /// Another peer with the same changes, on a journal of its own.
-pub fn forked(alloc: Global, peer: &RowPeer) -> Result<RowPeer, Fault> {
+pub fn fork_of(alloc: Global, peer: &RowPeer) -> Result<RowPeer, Fault> {
     let journal = FuseJournal::new(MemJournal::new(Vec::new(alloc)));
     match peer.fork(journal, FORKED) {
         Ok(peer) => Ok(peer),
@@ -92,7 +92,7 @@ fn run_on(
 }
 
 // How the other side's session ended, which took what the first side sent.
-fn answered(plan: Plan, other: &mut RowPeer, sent: &[u8]) -> Result<String, Fault> {
+fn answer_of_other(plan: Plan, other: &mut RowPeer, sent: &[u8]) -> Result<String, Fault> {
     let role = match plan.role {
         Role::Client => Role::Server,
         Role::Server => Role::Client,
@@ -101,8 +101,8 @@ fn answered(plan: Plan, other: &mut RowPeer, sent: &[u8]) -> Result<String, Faul
     run_on(Plan { role, ..plan }, other, Input::new(sent), &mut output)
 }
 
-// The text that both read behind a second session, over streams that don't fail.
-fn mended(plan: Plan, peer: &mut RowPeer, other: &mut RowPeer) -> Result<String, Fault> {
+// The text that both read after a second session, over streams that don't fail.
+fn text_once_mended(plan: Plan, peer: &mut RowPeer, other: &mut RowPeer) -> Result<String, Fault> {
     match plan.role {
         Role::Client => agree(plan.shelf.alloc(), peer, other),
         Role::Server => agree(plan.shelf.alloc(), other, peer),
@@ -117,13 +117,13 @@ fn put_met(
     sent: &[u8],
     answer: &mut String,
 ) -> Result<(), Fault> {
-    let there = answered(plan, other, sent)?;
-    let text = mended(plan, peer, other)?;
+    let there = answer_of_other(plan, other, sent)?;
+    let text = text_once_mended(plan, peer, other)?;
     write!(answer, ", {there}, then {text}")?;
     Ok(())
 }
 
-// The same, where there is another side.
+// Adds what became of the other side and what both read in the end, where there is another side.
 fn put_other(
     plan: Plan,
     peer: &mut RowPeer,
@@ -133,7 +133,7 @@ fn put_other(
     let Some(other) = plan.other else {
         return Ok(());
     };
-    let mut other = forked(plan.shelf.alloc(), other)?;
+    let mut other = fork_of(plan.shelf.alloc(), other)?;
     put_met(plan, peer, &mut other, sent, answer)
 }
 
@@ -151,9 +151,9 @@ fn outcome_of(
     })
 }
 
-// Runs the session over a reader, and a writer with so many calls that succeed.
+// Runs the session over a reader, and a writer with as many calls that succeed as said.
 fn run_over(plan: Plan, input: Input, succeeds: Option<usize>) -> Result<Outcome, Fault> {
-    let mut peer = forked(plan.shelf.alloc(), plan.peer)?;
+    let mut peer = fork_of(plan.shelf.alloc(), plan.peer)?;
     let mut output = Output::new(Vec::new(plan.shelf.alloc()));
     output.succeeds = succeeds;
     outcome_of(plan, &mut peer, input, &mut output)
@@ -188,7 +188,7 @@ fn feed_peer(plan: Plan, peer: &mut RowPeer, side: &mut Side) -> Result<Fed, Fau
 }
 
 fn feed(plan: Plan, framing: Framing) -> Result<Fed, Fault> {
-    let mut peer = forked(plan.shelf.alloc(), plan.peer)?;
+    let mut peer = fork_of(plan.shelf.alloc(), plan.peer)?;
     let mut side = Side::new(plan.shelf.alloc(), plan.role, &peer, framing);
     feed_peer(plan, &mut peer, &mut side)
 }
@@ -197,7 +197,8 @@ fn feed_parts(plan: Plan) -> Result<Fed, Fault> {
     feed(plan, Framing::Parts(PartFramer::new(plan.shelf.alloc())))
 }
 
-// The same without a reader and a writer, a byte at a time, where frames come whole, and where they come in parts.
+// Runs the session without a reader and a writer, a byte at a time, where frames come whole, and where they come in
+// parts.
 fn run_by_parts(plan: Plan) -> Result<String, Fault> {
     let whole = feed(plan, Framing::Whole(Framer::new(plan.shelf.alloc())))?;
     let parts = feed_parts(plan)?;
@@ -213,7 +214,7 @@ fn held_by_parts(plan: Plan) -> Result<String, Fault> {
     Ok(format!(in plan.shelf.alloc(); "{}, {}", fed.framed, fed.read)?)
 }
 
-// The same where the reader gives a byte at a time, and fails behind 0, 1 and so on up to all of them.
+// Runs the session where the reader gives a byte at a time, and fails after 0, 1 and so on up to all of them.
 fn run_reader_fails(plan: Plan) -> Result<String, Fault> {
     let mut runs = Runs::new(plan.shelf.alloc(), 0);
     for at in 0..=plan.bytes.len() {
@@ -222,7 +223,7 @@ fn run_reader_fails(plan: Plan) -> Result<String, Fault> {
     runs.end()
 }
 
-// The same where the writer fails at its call 0, 1 and so on, until none fails.
+// Runs the session where the writer fails at its call 0, 1 and so on, until none fails.
 fn run_writer_fails(plan: Plan) -> Result<String, Fault> {
     let mut runs = Runs::new(plan.shelf.alloc(), 0);
     for at in 0..1000 {
@@ -262,5 +263,5 @@ pub fn call(world: &World, word: &str, words: &mut Words) -> Option<Result<Strin
 }
 
 fn run_planned(world: &World, word: &str, words: &mut Words) -> Result<String, Fault> {
-    run_as(word, planned(world, words)?)
+    run_as(word, plan_of(world, words)?)
 }

@@ -7,12 +7,12 @@ use std::alloc::Global;
 use tp_peer::Received;
 use tp_served::ServedError;
 use tp_sync::Message;
-use tp_test_runner::{Fault, Shelf, Words, done, number, quoted, refusal, text};
+use tp_test_runner::{Fault, Shelf, Words, answer_ok, in_quotes, number, refusal, text};
 
 // `read TABLE SEAT`.
 fn read(alloc: Global, table: &mut Table) -> Result<String, Fault> {
     match table.read() {
-        Ok(text) => quoted(alloc, text.as_str()),
+        Ok(text) => in_quotes(alloc, text.as_str()),
         Err(error) => refusal(alloc, error),
     }
 }
@@ -21,7 +21,7 @@ fn read(alloc: Global, table: &mut Table) -> Result<String, Fault> {
 fn insert(alloc: Global, table: &mut Table, words: &mut Words) -> Result<String, Fault> {
     let text = text(alloc, words.next()?)?;
     match table.insert(text.as_str()) {
-        Ok(Some(_)) => done(alloc),
+        Ok(Some(_)) => answer_ok(alloc),
         Ok(None) => Ok(String::from_str(alloc, "nothing")?),
         Err(error) => refusal(alloc, error),
     }
@@ -35,7 +35,7 @@ fn send(shelf: &mut Shelf<Vec<u8>>, table: &mut Table, words: &mut Words) -> Res
 
 // How many changes of a message entered, are held and were refused, and `same` where it declares the heads of the one
 // before.
-fn told(alloc: Global, answer: Result<Received, ServedError>) -> Result<String, Fault> {
+fn line_of_received(alloc: Global, answer: Result<Received, ServedError>) -> Result<String, Fault> {
     match answer {
         Ok(received) => {
             let (entered, held) = (received.applied.applied.len(), received.applied.held.len());
@@ -50,7 +50,7 @@ fn told(alloc: Global, answer: Result<Received, ServedError>) -> Result<String, 
 // `receive TABLE SEAT BYTES`.
 fn receive(shelf: &Shelf<Vec<u8>>, table: &mut Table, words: &mut Words) -> Result<String, Fault> {
     let bytes = shelf.get(words.next()?)?;
-    told(shelf.alloc(), table.receive(bytes))
+    line_of_received(shelf.alloc(), table.receive(bytes))
 }
 
 // `receive_message TABLE SEAT BYTES`: the message, once it was decoded.
@@ -60,7 +60,7 @@ fn receive_message(
     words: &mut Words,
 ) -> Result<String, Fault> {
     match Message::decode(shelf.alloc(), shelf.get(words.next()?)?) {
-        Ok(message) => told(shelf.alloc(), table.receive_message(message)),
+        Ok(message) => line_of_received(shelf.alloc(), table.receive_message(message)),
         Err(error) => refusal(shelf.alloc(), error),
     }
 }
@@ -68,7 +68,7 @@ fn receive_message(
 // `forget TABLE SEAT`.
 fn forget(alloc: Global, table: &mut Table) -> Result<String, Fault> {
     match table.forget() {
-        Ok(()) => done(alloc),
+        Ok(()) => answer_ok(alloc),
         Err(error) => refusal(alloc, error),
     }
 }
@@ -76,7 +76,7 @@ fn forget(alloc: Global, table: &mut Table) -> Result<String, Fault> {
 // `meet TABLE SEAT`: with another one.
 fn meet(alloc: Global, table: &mut Table) -> Result<String, Fault> {
     if table.meet() {
-        done(alloc)
+        answer_ok(alloc)
     } else {
         Err(Fault::Row("there is one seat"))
     }

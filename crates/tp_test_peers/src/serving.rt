@@ -5,7 +5,7 @@ use crate::table::{Table, Unended};
 use crate::world::{RowPeer, World};
 use tp_opid::DocId;
 use tp_peer::Peer;
-use tp_test_runner::{Fault, Shelf, Words, actor, count, done, number, quoted, refusal};
+use tp_test_runner::{Fault, Shelf, Words, actor, answer_ok, count, in_quotes, number, refusal};
 
 // Serves a peer, or answers why not, and whether it came back.
 fn serve(
@@ -18,7 +18,7 @@ fn serve(
     match Table::open(alloc, peer, seats) {
         Ok(table) => {
             tables.put(name, table)?;
-            done(alloc)
+            answer_ok(alloc)
         }
         Err((error, is_back)) => {
             let error = refusal(alloc, error)?;
@@ -28,8 +28,8 @@ fn serve(
     }
 }
 
-// `open NAME ACTOR SEATS [armed=K]`: a new peer, served so many seats; the next append to its journal fails, and keeps K
-// bytes.
+// `open NAME ACTOR SEATS [armed=K]`: a new peer, served with `SEATS` seats; the next append to its journal fails, and
+// keeps K bytes.
 fn open(world: &mut World, words: &mut Words) -> Result<String, Fault> {
     let name = words.next()?;
     let actor = actor(words.next()?)?;
@@ -52,7 +52,7 @@ fn keep(world: &mut World, name: String, ended: Result<RowPeer, Unended>) -> Res
     match ended {
         Ok(peer) => {
             world.peers.put_back((name, peer))?;
-            done(world.alloc)
+            answer_ok(world.alloc)
         }
         Err(Unended { table, error }) => {
             if let Some(table) = table {
@@ -86,7 +86,7 @@ fn peer(world: &World, words: &mut Words) -> Result<String, Fault> {
     let count = peer.change_count();
     match peer.read() {
         Ok(text) => {
-            let text = quoted(world.alloc, text.as_str())?;
+            let text = in_quotes(world.alloc, text.as_str())?;
             Ok(format!(in world.alloc; "{count} changes, {text}")?)
         }
         Err(error) => refusal(world.alloc, error),

@@ -14,7 +14,7 @@ use tp_peer::{Outgoing, Received};
 use tp_served::{MAX_SEATS, Seat, Served, ServedError, Unclosed, Unserved};
 use tp_sync::Message;
 
-/// A served peer with all its seats, of which one has the next call.
+/// A served peer with all its seats; one of them has the next call.
 ///
 /// Contracts see which served peer it is. All of the seats are its own.
 #[derive(Drop)]
@@ -96,7 +96,7 @@ fn as_it_was(unclosed: Unclosed<FuseJournal>) -> Unended
 }
 
 impl Table {
-    /// A peer that is served so many seats; or why not, and whether it came back.
+    /// A peer that is served with `seats` seats; or why not, and whether it came back.
     pub fn open(alloc: Global, peer: RowPeer, seats: usize) -> Result<Table, (ServedError, bool)> {
         match Served::open(alloc, peer, seats) {
             Ok((served, seats)) => match table_of(served, seats) {

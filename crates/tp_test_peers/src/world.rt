@@ -19,9 +19,9 @@ pub struct World {
     pub alloc: Global,
     /// Changes.
     pub changes: Shelf<Change>,
-    /// Peers. A session is held over a fork of one, which is dropped behind it.
+    /// Peers. A session is held over a fork of one, which is dropped afterwards.
     pub peers: Shelf<RowPeer>,
-    /// Served peers, each with its seats. One that is closed stands among the peers.
+    /// Served peers, each with its seats. One that is closed is among the peers.
     pub tables: Shelf<Table>,
     /// Journals, messages and streams, as bytes.
     pub bytes: Shelf<Vec<u8>>,
@@ -45,7 +45,7 @@ impl World {
 
 // Whether the next word is the name of a served peer.
 fn is_served(world: &World, words: &Words) -> bool {
-    match words.left().first() {
+    match words.rest().first() {
         Some(name) => world.tables.has(name.as_str()),
         None => false,
     }

@@ -6,7 +6,7 @@ use std::cell::Cell;
 use std::io;
 use std::io::ErrorKind;
 
-/// How many calls succeed, or how many bytes are taken; all behind them fail.
+/// How many calls succeed, or how many bytes are taken; all after them fail.
 #[derive(Drop)]
 pub struct Budget {
     left: Cell<u64>,
@@ -14,12 +14,12 @@ pub struct Budget {
 }
 
 impl Budget {
-    /// So many calls succeed; the others find no room.
+    /// `left` calls succeed; the others find no room.
     pub fn new(left: u64) -> Budget {
         Budget::failing(left, ErrorKind::StorageFull)
     }
 
-    /// So many calls succeed; the others fail so.
+    /// `left` calls succeed; the others fail so.
     pub fn failing(left: u64, fault: ErrorKind) -> Budget {
         Budget {
             left: Cell::new(left),
@@ -38,7 +38,7 @@ impl Budget {
         }
     }
 
-    /// How many of so many bytes are taken, which are then spent; fails where none is left.
+    /// How many of `len` bytes are taken, which are then spent; it fails where none is left.
     pub fn take(&self, len: usize) -> io::Result<usize>
         ensures { IfOk result (λ taken. taken ≤ len) }
     {

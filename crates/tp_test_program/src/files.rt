@@ -6,7 +6,7 @@ use std::fs;
 use std::fs::Permissions;
 use std::os::unix::fs::{PermissionsExt, symlink};
 use std::rt::Files;
-use tp_test_runner::{Fault, Words, derived, done, number, spelled};
+use tp_test_runner::{Fault, Words, answer_ok, bytes_of_words, derive_bytes, number};
 
 // All bytes of a file.
 fn read<R: Files + AllocGlobal>(rt: &R, name: &str) -> Result<Vec<u8>, Fault> {
@@ -21,7 +21,7 @@ fn read<R: Files + AllocGlobal>(rt: &R, name: &str) -> Result<Vec<u8>, Fault> {
 fn write<R: Files + AllocGlobal>(rt: &R, name: &str, all: &[u8]) -> Result<String, Fault> {
     let path = inside(rt.alloc(), name)?;
     match fs::write(rt, path.as_str(), all) {
-        Ok(()) => done(rt.alloc()),
+        Ok(()) => answer_ok(rt.alloc()),
         Err(error) => Err(fault(&error)),
     }
 }
@@ -30,24 +30,28 @@ fn write<R: Files + AllocGlobal>(rt: &R, name: &str, all: &[u8]) -> Result<Strin
 fn folder<R: Files + AllocGlobal>(rt: &R, name: &str) -> Result<String, Fault> {
     let path = inside(rt.alloc(), name)?;
     match fs::create_dir(rt, path.as_str()) {
-        Ok(()) => done(rt.alloc()),
+        Ok(()) => answer_ok(rt.alloc()),
         Err(error) => Err(fault(&error)),
     }
 }
 
-// `file NAME HEX..`, `copy NAME OF`, `cut NAME OF LEN`, `alter NAME OF AT HEX`, `behind NAME OF HEX..`.
-fn made<R: Files + AllocGlobal>(rt: &R, word: &str, words: &mut Words) -> Result<Vec<u8>, Fault> {
+// `file NAME HEX..`, `copy NAME OF`, `cut NAME OF LEN`, `alter NAME OF AT HEX`, `beyond NAME OF HEX..`.
+fn bytes_asked<R: Files + AllocGlobal>(
+    rt: &R,
+    word: &str,
+    words: &mut Words,
+) -> Result<Vec<u8>, Fault> {
     let alloc = rt.alloc();
     if word == "file" {
-        return spelled(alloc, words.left());
+        return bytes_of_words(alloc, words.rest());
     }
     let whole = read(rt, words.next()?)?;
-    derived(alloc, &whole, word, words)
+    derive_bytes(alloc, &whole, word, words)
 }
 
 fn make<R: Files + AllocGlobal>(rt: &R, word: &str, words: &mut Words) -> Result<String, Fault> {
     let name = words.next()?;
-    let all = made(rt, word, words)?;
+    let all = bytes_asked(rt, word, words)?;
     write(rt, name, &all)
 }
 
@@ -60,17 +64,17 @@ fn len<R: Files + AllocGlobal>(rt: &R, name: &str) -> Result<String, Fault> {
 // `same NAME OTHER`: whether two files have the same bytes.
 fn same<R: Files + AllocGlobal>(rt: &R, name: &str, other: &str) -> Result<String, Fault> {
     if read(rt, name)?.as_slice() == read(rt, other)?.as_slice() {
-        done(rt.alloc())
+        answer_ok(rt.alloc())
     } else {
         Ok(String::from_str(rt.alloc(), "no")?)
     }
 }
 
-// `link NAME TARGET`: a link to the file, which stands beside it or nowhere.
+// `link NAME TARGET`: a link to the file, which is beside it or nowhere.
 fn link<R: Files + AllocGlobal>(rt: &R, name: &str, target: &str) -> Result<String, Fault> {
     let path = inside(rt.alloc(), name)?;
     match symlink(rt, target, path.as_str()) {
-        Ok(()) => done(rt.alloc()),
+        Ok(()) => answer_ok(rt.alloc()),
         Err(error) => Err(fault(&error)),
     }
 }
@@ -92,7 +96,7 @@ fn set_mode<R: Files + AllocGlobal>(rt: &R, name: &str, mode: &str) -> Result<St
         .ok_or(Fault::Row("no mode"))?;
     let mode = Permissions::from_mode(mode);
     match fs::set_permissions(rt, path.as_str(), mode) {
-        Ok(()) => done(rt.alloc()),
+        Ok(()) => answer_ok(rt.alloc()),
         Err(error) => Err(fault(&error)),
     }
 }

@@ -40,7 +40,7 @@ pub fn make<R: Files + AllocGlobal>(rt: &R) -> Result<(), Fault> {
     }
 }
 
-// What stands in the folder under the name.
+// What is in the folder under the name.
 fn entry_at<R: Files + AllocGlobal>(rt: &R, name: &str, is_empty: bool) -> io::Result<Entry> {
     let bytes = if is_empty {
         None
@@ -69,7 +69,7 @@ fn all_of<R: Files + AllocGlobal + Clone + Drop>(rt: &R) -> io::Result<Vec<Entry
 }
 
 /// What the folder holds.
-pub fn listed<R: Files + AllocGlobal + Clone + Drop>(rt: &R) -> Result<Vec<Entry>, Fault> {
+pub fn entries_of<R: Files + AllocGlobal + Clone + Drop>(rt: &R) -> Result<Vec<Entry>, Fault> {
     match all_of(rt) {
         Ok(entries) => Ok(entries),
         Err(error) => Err(fault(&error)),
@@ -97,7 +97,7 @@ pub fn restore<R: Files + AllocGlobal>(rt: &R, entries: &[Entry]) -> Result<(), 
 }
 
 // The entry of that name.
-fn named<'a>(entries: &'a [Entry], name: &str) -> Option<&'a Entry> {
+fn entry_of_name<'a>(entries: &'a [Entry], name: &str) -> Option<&'a Entry> {
     entries.iter().find(|entry| entry.name.as_str() == name)
 }
 
@@ -118,13 +118,13 @@ fn is_as_before(before: Option<&Entry>, bytes: &Option<Vec<u8>>) -> bool {
     }
 }
 
-// The names of the files that are new or have other bytes than before, in their order, and behind a hyphen of those
-// that are gone.
+// The names of the files that are new or have other bytes than before, in their order, and after a hyphen those
+// of files that are gone.
 fn changed_names(alloc: Global, before: &[Entry], after: &[Entry]) -> Result<Vec<String>, Fault> {
     let mut names = Vec::new(alloc);
     for entry in after {
         let name = entry.name.as_str();
-        if !is_as_before(named(before, name), &entry.bytes) {
+        if !is_as_before(entry_of_name(before, name), &entry.bytes) {
             names.push(String::from_str(alloc, name)?)?;
         }
     }
@@ -141,7 +141,7 @@ fn push_gone(
 ) -> Result<(), Fault> {
     for entry in before {
         let name = entry.name.as_str();
-        if named(after, name).is_none() {
+        if entry_of_name(after, name).is_none() {
             names.push(format!(in alloc; "-{name}")?)?;
         }
     }

@@ -16,7 +16,7 @@ use tp_test_runner::{Fault, Words, bytes, number};
 enum JournalCall {
     /// The bytes are appended.
     Append(Vec<u8>),
-    /// The content is cut to so many bytes.
+    /// The content is cut to this many bytes.
     Cut(u64),
     /// All of it is read.
     Read,
@@ -70,46 +70,46 @@ fn calls_in(alloc: Global, words: &[String]) -> Result<Vec<JournalCall>, Fault> 
 }
 
 // A refusal as an answer, by its name.
-fn refused(alloc: Global, error: JournalError) -> Result<String, Stop> {
+fn name_of_refusal(alloc: Global, error: JournalError) -> Result<String, Stop> {
     match error {
         JournalError::OutOfMemory => Err(Stop::Refused),
         error => Ok(format!(in alloc; "{error}")?),
     }
 }
 
-fn told(alloc: Global, answer: Result<(), JournalError>) -> Result<String, Stop> {
+fn line_of_answer(alloc: Global, answer: Result<(), JournalError>) -> Result<String, Stop> {
     match answer {
         Ok(()) => Ok(String::from_str(alloc, "ok")?),
-        Err(error) => refused(alloc, error),
+        Err(error) => name_of_refusal(alloc, error),
     }
 }
 
 fn read<J: Journal>(alloc: Global, journal: &mut J) -> Result<String, Stop> {
     match journal.read_all() {
         Ok(all) => Ok(hex::encode(alloc, all.as_slice())?),
-        Err(error) => refused(alloc, error),
+        Err(error) => name_of_refusal(alloc, error),
     }
 }
 
 // What the call on the journal answers; what is in memory is on no disk.
 fn answer<J: Journal>(alloc: Global, journal: &mut J, call: &JournalCall) -> Result<String, Stop> {
     match call {
-        JournalCall::Append(more) => told(alloc, journal.append(more)),
-        JournalCall::Cut(len) => told(alloc, journal.cut(*len)),
+        JournalCall::Append(more) => line_of_answer(alloc, journal.append(more)),
+        JournalCall::Cut(len) => line_of_answer(alloc, journal.cut(*len)),
         JournalCall::Read => read(alloc, journal),
         JournalCall::Failures => Ok(format!(in alloc; "{}", journal.failures())?),
         JournalCall::Sync => Ok(String::from_str(alloc, "ok")?),
     }
 }
 
-// The same of a journal in a file.
+// What the call on a journal in a file answers.
 fn answer_in_file<F: Write + OpenFile + Drop>(
     alloc: Global,
     journal: &mut FileJournal<F>,
     call: &JournalCall,
 ) -> Result<String, Stop> {
     match call {
-        JournalCall::Sync => told(alloc, journal.sync()),
+        JournalCall::Sync => line_of_answer(alloc, journal.sync()),
         call => answer(alloc, journal, call),
     }
 }
@@ -152,7 +152,7 @@ where
 }
 
 // Opens the file as a journal that holds no copy of its content.
-fn opened<R: Files + AllocGlobal>(
+fn open_journal<R: Files + AllocGlobal>(
     rt: &R,
     path: &str,
 ) -> Result<(FileJournal<R::File>, Recovery), OpenError>
@@ -163,7 +163,7 @@ where
 }
 
 // How many bytes are kept of what was recovered, or why it wasn't.
-fn kept(alloc: Global, recovered: Recovery) -> Result<String, Stop> {
+fn line_of_recovery(alloc: Global, recovered: Recovery) -> Result<String, Stop> {
     match recovered {
         Ok(recovered) => Ok(format!(in alloc; "keep {}", recovered.keep)?),
         Err(StoreError::OutOfMemory) => Err(Stop::Refused),
@@ -181,9 +181,9 @@ where
     R::File: Lockable,
 {
     let alloc = rt.alloc();
-    match opened(rt, path) {
+    match open_journal(rt, path) {
         Ok((mut journal, recovered)) => {
-            let mut out = kept(alloc, recovered)?;
+            let mut out = line_of_recovery(alloc, recovered)?;
             put(&mut out, answers_in_file(alloc, &mut journal, calls)?)?;
             Ok(out)
         }
@@ -200,7 +200,7 @@ fn limit(words: &mut Words, key: &str) -> Result<Budget, Fault> {
 }
 
 // `journal NAME [make=1] [device=N] [takes=N] CALL..`: the calls on the file as a journal, which is made where it is
-// absent; its device fails after so many calls, and takes so many bytes.
+// absent; its device fails after `device` calls, and takes as many bytes as `takes` says.
 fn journal<R: Files<File = File> + AllocGlobal>(
     rt: &R,
     words: &mut Words,
@@ -209,13 +209,13 @@ fn journal<R: Files<File = File> + AllocGlobal>(
     let make = words.option("make").is_some();
     let device = limit(words, "device")?;
     let room = limit(words, "takes")?;
-    let calls = calls_in(rt.alloc(), words.left())?;
+    let calls = calls_in(rt.alloc(), words.rest())?;
     let host = Host::new(rt, &device, &room)?;
     Ok(in_file(&host, path, make, &calls)?)
 }
 
-// `journal_recovered NAME [device=N] [takes=N] CALL..`: the same on the file as a journal that holds no copy, behind how many
-// of its bytes are kept.
+// `journal_recovered NAME [device=N] [takes=N] CALL..`: the calls on the file as a journal that holds no copy, after
+// how many of its bytes are kept.
 fn journal_recovered<R: Files<File = File> + AllocGlobal>(
     rt: &R,
     words: &mut Words,
@@ -223,7 +223,7 @@ fn journal_recovered<R: Files<File = File> + AllocGlobal>(
     let path = words.next()?;
     let device = limit(words, "device")?;
     let room = limit(words, "takes")?;
-    let calls = calls_in(rt.alloc(), words.left())?;
+    let calls = calls_in(rt.alloc(), words.rest())?;
     let host = Host::new(rt, &device, &room)?;
     Ok(recovered_in_file(&host, path, &calls)?)
 }
@@ -248,7 +248,7 @@ pub fn call<R: Files<File = File> + AllocGlobal>(
     match word {
         "journal" => Some(journal(rt, words)),
         "journal_recovered" => Some(journal_recovered(rt, words)),
-        "journal_in_memory" => Some(in_memory(rt.alloc(), words.left())),
+        "journal_in_memory" => Some(in_memory(rt.alloc(), words.rest())),
         _ => None,
     }
 }

@@ -1,7 +1,7 @@
 //! Names for long words, and texts with these names in their place.
 
 use std::alloc::Global;
-use tp_test_runner::{Fault, Shelf, Words, done, text};
+use tp_test_runner::{Fault, Shelf, Words, answer_ok, text};
 
 /// `let NAME WORD`: the name stands for the word.
 pub fn give_name(names: &mut Shelf<String>, words: &mut Words) -> Result<String, Fault> {
@@ -9,7 +9,7 @@ pub fn give_name(names: &mut Shelf<String>, words: &mut Words) -> Result<String,
     let word = String::from_str(names.alloc(), words.next()?)?;
     names.put(name, word)?;
     words.end()?;
-    done(names.alloc())
+    answer_ok(names.alloc())
 }
 
 // The text with a newline for each `\n`.
@@ -24,8 +24,8 @@ fn with_newlines(alloc: Global, text: &str) -> Result<String, Fault> {
     Ok(out)
 }
 
-/// What a word of a row stands for: a text in quotes, what has the name behind `$`, or itself.
-pub fn meant(names: &Shelf<String>, word: &str) -> Result<String, Fault> {
+/// What a word of a row stands for: a text in quotes, what has the name after `$`, or itself.
+pub fn meaning_of(names: &Shelf<String>, word: &str) -> Result<String, Fault> {
     if let Some(name) = word.strip_prefix('$') {
         return Ok(names.get(name)?.clone()?);
     }
@@ -41,13 +41,13 @@ pub fn command_line(names: &Shelf<String>, words: &[String]) -> Result<Vec<Strin
     let mut line = Vec::new(names.alloc());
     line.push(String::from_str(names.alloc(), "textpeer")?)?;
     for word in words {
-        line.push(meant(names, word.as_str())?)?;
+        line.push(meaning_of(names, word.as_str())?)?;
     }
     Ok(line)
 }
 
-/// The line of a script that the words stand for: the words parted by one blank each, with what has a name in place of
-/// `$` and the name, and a newline.
+/// The line of a script that the words stand for: the words separated by one blank each, with what has a name in place
+/// of `$` and the name, and a newline.
 pub fn script_line(names: &Shelf<String>, words: &[String]) -> Result<String, Fault> {
     let mut line = String::new(names.alloc());
     for (i, word) in words.iter().enumerate() {
@@ -100,7 +100,7 @@ pub fn put_text(names: &Shelf<String>, out: &mut String, text: &str) -> Result<(
 pub fn has_line(alloc: Global, stream: &str, wanted: &str) -> Result<String, Fault> {
     for line in stream.split('\n') {
         if line == wanted {
-            return done(alloc);
+            return answer_ok(alloc);
         }
     }
     Ok(String::from_str(alloc, "no")?)

@@ -5,7 +5,7 @@ use tp_simulate::{SimError, simulate};
 use tp_test_runner::Fault;
 
 /// What a script prints, or the number of the line at which it is refused.
-pub fn printed(alloc: Global, script: &[u8]) -> Result<Result<String, u64>, Fault> {
+pub fn printed_by(alloc: Global, script: &[u8]) -> Result<Result<String, u64>, Fault> {
     let mut reader = script;
     let mut out = Vec::new(alloc);
     match simulate(alloc, &mut reader, &mut out) {
@@ -43,7 +43,7 @@ pub fn line_before(alloc: Global, text: &str) -> Result<String, Fault> {
 }
 
 /// The number of lines, where the two are the same; else the first line that differs.
-pub fn compared(alloc: Global, printed: &str, wanted: &str) -> Result<String, Fault> {
+pub fn compare_lines(alloc: Global, printed: &str, wanted: &str) -> Result<String, Fault> {
     let mut number = 0u64;
     let mut others = wanted.lines();
     for line in printed.lines() {

@@ -4,7 +4,7 @@ ghost use Rattle.std.specs.Prelude.{◌≡◌, None};
 
 use crate::answers::Ran;
 use crate::budget::Budget;
-use crate::folder::{Entry, fault, listed, put_changes, restore};
+use crate::folder::{Entry, entries_of, fault, put_changes, restore};
 use crate::host::Host;
 use crate::lines::command_line;
 use crate::paths::inside;
@@ -40,8 +40,8 @@ fn limit(words: &mut Words, key: &str) -> Result<u64, Fault> {
     }
 }
 
-// `[out=N] [closed=N] [err=N] [device=N]`: the standard output, the standard error or the files fail after so many calls, or
-// who reads the standard output has closed it.
+// `[out=N] [closed=N] [err=N] [device=N]`: the standard output, the standard error or the files fail after `N` calls,
+// or who reads the standard output has closed it.
 fn limits_of(words: &mut Words) -> Result<Limits, Fault> {
     Ok(Limits {
         out: limit(words, "out")?,
@@ -169,7 +169,7 @@ fn answer_of<R: Files<File = File> + AllocGlobal + Clone + Drop>(
     } else {
         ran.put_streams(&mut answer)?;
     }
-    put_changes(&mut answer, before, &listed(world.rt)?)?;
+    put_changes(&mut answer, before, &entries_of(world.rt)?)?;
     Ok(answer)
 }
 
@@ -180,7 +180,7 @@ fn run_and_keep<R: Files<File = File> + AllocGlobal + Clone + Drop>(
     input: &[u8],
     has_texts: bool,
 ) -> Result<String, Fault> {
-    let before = listed(world.rt)?;
+    let before = entries_of(world.rt)?;
     let ran = run_over(world.rt, limits, line, input, &before)?;
     let answer = answer_of(world, &ran, &before, has_texts)?;
     world.ran = Some(ran);
@@ -213,12 +213,12 @@ fn run<R: Files<File = File> + AllocGlobal + Clone + Drop>(
 ) -> Result<String, Fault> {
     let limits = limits_of(words)?;
     let input = input_of(world, words)?;
-    let line = command_line(&world.names, words.left())?;
+    let line = command_line(&world.names, words.rest())?;
     run_and_keep(world, limits, &line, &input, has_texts)
 }
 
 // The file, with its lock.
-fn locked<R: Files<File = File> + AllocGlobal>(rt: &R, name: &str) -> Result<File, Fault> {
+fn lock_file<R: Files<File = File> + AllocGlobal>(rt: &R, name: &str) -> Result<File, Fault> {
     let path = inside(rt.alloc(), name)?;
     let file = match fs::open(rt, path.as_str()) {
         Ok(file) => file,
@@ -235,13 +235,13 @@ fn run_beside<R: Files<File = File> + AllocGlobal + Clone + Drop>(
     world: &mut World<R>,
     words: &mut Words,
 ) -> Result<String, Fault> {
-    let file = locked(world.rt, words.next()?)?;
+    let file = lock_file(world.rt, words.next()?)?;
     let answer = run(world, words, true);
     drop(file);
     answer
 }
 
-// What a run answers whose device fails after so many calls; whether it was done.
+// What a run answers whose device fails after `calls` calls; whether it was done.
 fn run_failing<R: Files<File = File> + AllocGlobal + Clone + Drop>(
     world: &World<R>,
     calls: u64,
@@ -287,8 +287,8 @@ fn device_fails<R: Files<File = File> + AllocGlobal + Clone + Drop>(
     world: &World<R>,
     words: &mut Words,
 ) -> Result<String, Fault> {
-    let line = command_line(&world.names, words.left())?;
-    let before = listed(world.rt)?;
+    let line = command_line(&world.names, words.rest())?;
+    let before = entries_of(world.rt)?;
     answers(world, &line, &before)
 }
 

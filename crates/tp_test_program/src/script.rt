@@ -1,7 +1,7 @@
 //! The script of an example, and what makes its calls.
 
 use crate::lines::{give_name, script_line};
-use crate::printed::{compared, last_line, line_before, printed, text_of};
+use crate::printed::{compare_lines, last_line, line_before, printed_by, text_of};
 use std::alloc::Global;
 use std::fs;
 use std::rt::Files;
@@ -25,7 +25,7 @@ fn read<R: Files + AllocGlobal>(rt: &R, name: &str) -> Result<String, Fault> {
 
 // What is printed of the last line of a script, and whether the script was run to its end.
 fn last_of(alloc: Global, script: &[u8]) -> Result<(bool, String), Fault> {
-    match printed(alloc, script)? {
+    match printed_by(alloc, script)? {
         Ok(text) => Ok((true, line_before(alloc, text.as_str())?)),
         Err(number) => Ok((false, format!(in alloc; "line {number}")?)),
     }
@@ -41,7 +41,7 @@ impl<'a, R: Files + AllocGlobal> Script<'a, R> {
         }
     }
 
-    // Puts bytes behind the script, and answers what is printed of its last line. Where the script is refused, they are
+    // Puts bytes after the script, and answers what is printed of its last line. Where the script is refused, they are
     // taken away again.
     fn add(&mut self, more: &[u8]) -> Result<String, Fault> {
         let len = self.bytes.len();
@@ -60,7 +60,7 @@ impl<'a, R: Files + AllocGlobal> Script<'a, R> {
         }
     }
 
-    // `raw HEX`: bytes behind the script, as they are.
+    // `raw HEX`: bytes after the script, as they are.
     fn raw(&mut self, words: &mut Words) -> Result<String, Fault> {
         let more = bytes(self.rt.alloc(), words.next()?)?;
         self.add(&more)
@@ -69,7 +69,7 @@ impl<'a, R: Files + AllocGlobal> Script<'a, R> {
     // `end`: how many lines the script prints, and the last one.
     fn end(&self) -> Result<String, Fault> {
         let alloc = self.rt.alloc();
-        match printed(alloc, &self.bytes)? {
+        match printed_by(alloc, &self.bytes)? {
             Ok(text) => {
                 let (count, last) = last_line(alloc, text.as_str())?;
                 Ok(format!(in alloc; "{count} lines, {last}")?)
@@ -83,8 +83,8 @@ impl<'a, R: Files + AllocGlobal> Script<'a, R> {
         let alloc = self.rt.alloc();
         let script = read(self.rt, words.next()?)?;
         let wanted = read(self.rt, words.next()?)?;
-        match printed(alloc, script.as_str().as_bytes())? {
-            Ok(text) => compared(alloc, text.as_str(), wanted.as_str()),
+        match printed_by(alloc, script.as_str().as_bytes())? {
+            Ok(text) => compare_lines(alloc, text.as_str(), wanted.as_str()),
             Err(number) => Ok(format!(in alloc; "line {number}")?),
         }
     }
@@ -92,7 +92,7 @@ impl<'a, R: Files + AllocGlobal> Script<'a, R> {
 
 impl<R: Files + AllocGlobal> Calls for Script<'_, R> {
     fn call(&mut self, words: &mut Words) -> Result<String, Fault> {
-        let all = words.left();
+        let all = words.rest();
         match words.next()? {
             "let" => give_name(&mut self.names, words),
             "raw" => self.raw(words),

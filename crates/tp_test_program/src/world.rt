@@ -2,7 +2,7 @@
 
 use crate::answers::Ran;
 use crate::folder::make;
-use crate::lines::{give_name, has_line, meant};
+use crate::lines::{give_name, has_line, meaning_of};
 use crate::locks::lock_of;
 use crate::{files, journals, runs};
 use std::fs::File;
@@ -44,7 +44,7 @@ impl<'a, R: Files + AllocGlobal> World<'a, R> {
 
     // `out TEXT` and `err TEXT`: whether the text is a line of that stream of the last run.
     fn has(&self, word: &str, words: &mut Words) -> Result<String, Fault> {
-        let wanted = meant(&self.names, words.next()?)?;
+        let wanted = meaning_of(&self.names, words.next()?)?;
         match (word, &self.ran) {
             ("out", Some(ran)) => has_line(self.rt.alloc(), ran.out.as_str(), wanted.as_str()),
             ("err", Some(ran)) => has_line(self.rt.alloc(), ran.err.as_str(), wanted.as_str()),

@@ -1,6 +1,6 @@
 //! Calls that give bytes a name.
 
-use crate::fault::{Fault, done};
+use crate::fault::{Fault, answer_ok};
 use crate::literals::{bytes, count, text};
 use crate::shelf::Shelf;
 use crate::words::Words;
@@ -8,7 +8,7 @@ use std::alloc::Global;
 use tp_change::Change;
 
 /// The bytes that the digits are, or those of a text, as `"abc"*3`; of all words one after another.
-pub fn spelled(alloc: Global, words: &[String]) -> Result<Vec<u8>, Fault> {
+pub fn bytes_of_words(alloc: Global, words: &[String]) -> Result<Vec<u8>, Fault> {
     let mut all = Vec::new(alloc);
     for word in words {
         if word.starts_with('"') {
@@ -21,7 +21,12 @@ pub fn spelled(alloc: Global, words: &[String]) -> Result<Vec<u8>, Fault> {
 }
 
 /// The bytes with others in the place of those from `at` on, as far as they reach.
-pub fn altered(alloc: Global, whole: &[u8], at: usize, others: &[u8]) -> Result<Vec<u8>, Fault> {
+pub fn with_others_at(
+    alloc: Global,
+    whole: &[u8],
+    at: usize,
+    others: &[u8],
+) -> Result<Vec<u8>, Fault> {
     let mut all = Vec::from_slice(alloc, whole)?;
     for (i, other) in others.iter().enumerate() {
         if let Some(byte) = all.get_mut(at.saturating_add(i)) {
@@ -32,7 +37,7 @@ pub fn altered(alloc: Global, whole: &[u8], at: usize, others: &[u8]) -> Result<
 }
 
 /// The bytes with the one at an offset complemented.
-pub fn complemented(alloc: Global, whole: &[u8], at: usize) -> Result<Vec<u8>, Fault> {
+pub fn with_complement_at(alloc: Global, whole: &[u8], at: usize) -> Result<Vec<u8>, Fault> {
     let mut all = Vec::from_slice(alloc, whole)?;
     if let Some(byte) = all.get_mut(at) {
         *byte = !*byte;
@@ -43,13 +48,13 @@ pub fn complemented(alloc: Global, whole: &[u8], at: usize) -> Result<Vec<u8>, F
 // `AT HEX..`.
 fn alter(alloc: Global, whole: &[u8], words: &mut Words) -> Result<Vec<u8>, Fault> {
     let at = count(words.next()?)?;
-    altered(alloc, whole, at, &spelled(alloc, words.left())?)
+    with_others_at(alloc, whole, at, &bytes_of_words(alloc, words.rest())?)
 }
 
 // `HEX..`.
-fn extended(alloc: Global, whole: &[u8], words: &Words) -> Result<Vec<u8>, Fault> {
+fn with_words_after(alloc: Global, whole: &[u8], words: &Words) -> Result<Vec<u8>, Fault> {
     let mut all = Vec::from_slice(alloc, whole)?;
-    all.extend_from_slice(&spelled(alloc, words.left())?)?;
+    all.extend_from_slice(&bytes_of_words(alloc, words.rest())?)?;
     Ok(all)
 }
 
@@ -57,8 +62,8 @@ fn cut(alloc: Global, whole: &[u8], len: usize) -> Result<Vec<u8>, Fault> {
     Ok(Vec::from_slice(alloc, whole.get(..len).unwrap_or(whole))?)
 }
 
-/// Bytes made of others by a call: `cut LEN`, `complement AT`, `alter AT HEX..`, `behind HEX..`, or a copy of them.
-pub fn derived(
+/// Bytes made of others by a call: `cut LEN`, `complement AT`, `alter AT HEX..`, `beyond HEX..`, or a copy of them.
+pub fn derive_bytes(
     alloc: Global,
     whole: &[u8],
     word: &str,
@@ -66,14 +71,14 @@ pub fn derived(
 ) -> Result<Vec<u8>, Fault> {
     match word {
         "cut" => cut(alloc, whole, count(words.next()?)?),
-        "complement" => complemented(alloc, whole, count(words.next()?)?),
+        "complement" => with_complement_at(alloc, whole, count(words.next()?)?),
         "alter" => alter(alloc, whole, words),
-        "behind" => extended(alloc, whole, words),
+        "behind" => with_words_after(alloc, whole, words),
         _ => Ok(Vec::from_slice(alloc, whole)?),
     }
 }
 
-fn encoded(changes: &Shelf<Change>, name: &str) -> Result<Vec<u8>, Fault> {
+fn bytes_of_change(changes: &Shelf<Change>, name: &str) -> Result<Vec<u8>, Fault> {
     changes.get(name)?.encode().ok().ok_or(Fault::Memory)
 }
 
@@ -88,16 +93,16 @@ fn push_entry(all: &mut Vec<u8>, bytes: &[u8]) -> Result<(), Fault> {
 
 fn push_part(changes: &Shelf<Change>, all: &mut Vec<u8>, part: &str) -> Result<(), Fault> {
     if let Some(name) = part.strip_prefix("change:") {
-        return Ok(all.extend_from_slice(&encoded(changes, name)?)?);
+        return Ok(all.extend_from_slice(&bytes_of_change(changes, name)?)?);
     }
     if let Some(name) = part.strip_prefix("log:") {
-        return push_entry(all, &encoded(changes, name)?);
+        return push_entry(all, &bytes_of_change(changes, name)?);
     }
     Ok(all.extend_from_slice(&bytes(changes.alloc(), part)?)?)
 }
 
-// `PART..`: the parts one behind another; a part is hexadecimal digits, `change:NAME`, or `log:NAME` for a change's
-// length and bytes as they stand in a log.
+// `PART..`: the parts one after another; a part is hexadecimal digits, `change:NAME`, or `log:NAME` for a change's
+// length and bytes as they are in a log.
 fn parts(changes: &Shelf<Change>, words: &[String]) -> Result<Vec<u8>, Fault> {
     let mut all = Vec::new(changes.alloc());
     for word in words {
@@ -106,22 +111,22 @@ fn parts(changes: &Shelf<Change>, words: &[String]) -> Result<Vec<u8>, Fault> {
     Ok(all)
 }
 
-// `NAME LEN`: so many zeros.
+// `NAME LEN`: `LEN` zeros.
 fn zeros(alloc: Global, words: &mut Words) -> Result<Vec<u8>, Fault> {
     let len = count(words.next()?)?;
     Ok(vec![in alloc; 0; len]?)
 }
 
-fn made(
+fn make_bytes(
     changes: &Shelf<Change>,
     shelf: &Shelf<Vec<u8>>,
     word: &str,
     words: &mut Words,
 ) -> Result<Vec<u8>, Fault> {
     match word {
-        "bytes" => parts(changes, words.left()),
+        "bytes" => parts(changes, words.rest()),
         "zeros" => zeros(shelf.alloc(), words),
-        _ => derived(shelf.alloc(), shelf.get(words.next()?)?, word, words),
+        _ => derive_bytes(shelf.alloc(), shelf.get(words.next()?)?, word, words),
     }
 }
 
@@ -132,12 +137,12 @@ fn keep(
     words: &mut Words,
 ) -> Result<String, Fault> {
     let name = words.next()?;
-    let all = made(changes, shelf, word, words)?;
+    let all = make_bytes(changes, shelf, word, words)?;
     shelf.put(name, all)?;
-    done(shelf.alloc())
+    answer_ok(shelf.alloc())
 }
 
-fn joined(shelf: &Shelf<Vec<u8>>, names: &[String]) -> Result<Vec<u8>, Fault> {
+fn concatenate(shelf: &Shelf<Vec<u8>>, names: &[String]) -> Result<Vec<u8>, Fault> {
     let mut whole = Vec::new(shelf.alloc());
     for name in names {
         whole.extend_from_slice(shelf.get(name.as_str())?)?;
@@ -152,10 +157,10 @@ pub fn keep_bytes(shelf: &mut Shelf<Vec<u8>>, name: &str, all: Vec<u8>) -> Resul
     Ok(format!(in shelf.alloc(); "{len} bytes")?)
 }
 
-// `join NAME OF..`: others one behind another.
+// `join NAME OF..`: others one after another.
 fn join(shelf: &mut Shelf<Vec<u8>>, words: &mut Words) -> Result<String, Fault> {
     let name = words.next()?;
-    let whole = joined(shelf, words.left())?;
+    let whole = concatenate(shelf, words.rest())?;
     keep_bytes(shelf, name, whole)
 }
 
@@ -168,7 +173,7 @@ fn digits(shelf: &Shelf<Vec<u8>>, words: &mut Words) -> Result<String, Fault> {
 /// Makes a call that gives bytes a name, or shows bytes; `None` where the word is none of these.
 ///
 /// `bytes NAME PART..`, `zeros NAME LEN`, `cut NAME OF LEN`, `complement NAME OF AT`, `alter NAME OF AT HEX`,
-/// `behind NAME OF HEX`, `join NAME OF..` and `digits BYTES`.
+/// `beyond NAME OF HEX`, `join NAME OF..` and `digits BYTES`.
 pub fn call_on_bytes(
     changes: &Shelf<Change>,
     shelf: &mut Shelf<Vec<u8>>,

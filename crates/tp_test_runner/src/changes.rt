@@ -1,6 +1,6 @@
 //! Calls on the fields of changes.
 
-use crate::fault::{Fault, done, refusal};
+use crate::fault::{Fault, answer_ok, refusal};
 use crate::lists::hashes;
 use crate::literals::{actor, number, records, text};
 use crate::printing::{put_actor, put_names, put_op, put_record, put_text};
@@ -20,7 +20,7 @@ fn parts_of(changes: &Shelf<Change>, words: &mut Words) -> Result<ChangeParts, F
     let message = words.option("message").unwrap_or("\"\"");
     let deps = Items::new(hashes(changes, deps)?);
     let message = Text::new(text(alloc, message)?);
-    let records = Items::new(records(alloc, words.left())?);
+    let records = Items::new(records(alloc, words.rest())?);
     Ok(ChangeParts {
         actor,
         seq,
@@ -49,20 +49,20 @@ pub fn keep_change(
     match made {
         Ok(change) => {
             changes.put(name, change)?;
-            done(changes.alloc())
+            answer_ok(changes.alloc())
         }
         Err(error) => refusal(changes.alloc(), error),
     }
 }
 
-// `size CHANGE`: the number of its bytes, of its operations, and the counter behind its last.
+// `size CHANGE`: the number of its bytes, of its operations, and the counter after its last.
 fn size(changes: &Shelf<Change>, words: &mut Words) -> Result<String, Fault> {
     let change = changes.get(words.next()?)?;
     let (len, count, next) = (change.encoded_len(), change.op_count(), change.next_start());
     Ok(format!(in changes.alloc(); "{len} bytes, {count} operations, next {next}")?)
 }
 
-// Adds the fields of a change that stand before its records.
+// Adds the fields of a change that are before its records.
 fn put_head(changes: &Shelf<Change>, out: &mut String, change: &Change) -> Result<(), Fault> {
     put_actor(out, &change.actor())?;
     let (seq, start, time) = (change.seq(), change.start(), change.time());

@@ -33,7 +33,7 @@ fn first_of(alloc: Global, actor: Actor, text: &str) -> Result<Change, Fault> {
     Change::new(alloc, parts).ok().ok_or(Fault::Memory)
 }
 
-/// The first changes of the actors with the numbers from `from` up to, but without, `to`, each of which inserts the
+/// The first changes of the actors with the numbers from `from` up to, but without, `to`. Each change inserts the
 /// text.
 pub fn firsts(alloc: Global, from: usize, to: usize, text: &str) -> Result<Vec<Change>, Fault> {
     let mut made = Vec::new(alloc);

@@ -2,12 +2,12 @@
 
 use crate::crowds::firsts;
 use crate::edits::{Request, name_last, request_of};
-use crate::fault::{Fault, done, refusal};
+use crate::fault::{Fault, answer_ok, refusal};
 use crate::lists::range;
 use crate::literals::{actor, byte, text};
-use crate::printing::{names, names_of, put_id, quoted};
+use crate::printing::{in_quotes, names, names_of, put_id};
 use crate::shelf::Shelf;
-use crate::splice::lent;
+use crate::splice::lend_splices;
 use crate::words::Words;
 use std::alloc::Global;
 use tp_change::Change;
@@ -29,7 +29,7 @@ fn make<S: Sequence>(
     let name = words.next()?;
     let id = document_id(words.take().unwrap_or("7"))?;
     documents.put(name, Document::new(alloc, id))?;
-    done(alloc)
+    answer_ok(alloc)
 }
 
 /// Gives a document its name, or answers why there is none.
@@ -41,7 +41,7 @@ pub fn keep_document<S: Sequence>(
     match made {
         Ok(document) => {
             documents.put(name, document)?;
-            done(documents.alloc())
+            answer_ok(documents.alloc())
         }
         Err(error) => refusal(documents.alloc(), error),
     }
@@ -58,7 +58,7 @@ fn fork<S: Sequence>(
 }
 
 // `branches DOCUMENT FROM..TO [TEXT]`: enters the first changes of the actors with the numbers from `FROM` up to, but
-// without, `TO`, each of which inserts the text, of one character where none is given.
+// without, `TO`. Each change inserts the text, of one character where none is given.
 fn branches<S: Sequence>(
     documents: &mut Shelf<Document<S>>,
     words: &mut Words,
@@ -69,18 +69,18 @@ fn branches<S: Sequence>(
     let inserted = text(alloc, words.take().unwrap_or("\"x\""))?;
     let made = firsts(alloc, from, to, inserted.as_str())?;
     match document.apply(made) {
-        Ok(_) => done(alloc),
+        Ok(_) => answer_ok(alloc),
         Err(error) => refusal(alloc, error),
     }
 }
 
-fn edited<S: Sequence>(
+fn edit_asked<S: Sequence>(
     alloc: Global,
     document: &mut Document<S>,
     actor: Actor,
     asked: &Request,
 ) -> Result<Result<Option<Hash>, DocError>, Fault> {
-    let splices = lent(alloc, &asked.splices)?;
+    let splices = lend_splices(alloc, &asked.splices)?;
     Ok(document.edit(actor, &splices, asked.time, asked.message.as_str()))
 }
 
@@ -93,7 +93,7 @@ fn edit<S: Sequence>(
     let alloc = changes.alloc();
     let actor = actor(words.next()?)?;
     let asked = request_of(alloc, words)?;
-    match edited(alloc, document, actor, &asked)? {
+    match edit_asked(alloc, document, actor, &asked)? {
         Ok(Some(_)) => name_last(changes, document.changes(), asked.name),
         Ok(None) => Ok(String::from_str(alloc, "nothing")?),
         Err(error) => refusal(alloc, error),
@@ -125,7 +125,7 @@ pub fn call_on_documents<S: Sequence>(
     })
 }
 
-/// Gives a cursor its name, and answers the element that it stands at, or why there is none.
+/// Gives a cursor its name, and answers the element that it marks, or why there is none.
 pub fn keep_cursor(
     cursors: &mut Shelf<Cursor>,
     name: &str,
@@ -142,7 +142,7 @@ pub fn keep_cursor(
     }
 }
 
-/// Where a cursor stands, or the refusal.
+/// Where a cursor is, or the refusal.
 pub fn answer_position(alloc: Global, answer: Result<usize, DocError>) -> Result<String, Fault> {
     match answer {
         Ok(at) => Ok(format!(in alloc; "{at}")?),
@@ -153,7 +153,7 @@ pub fn answer_position(alloc: Global, answer: Result<usize, DocError>) -> Result
 /// A text that was read, in quotes, or the refusal.
 pub fn answer_text(alloc: Global, answer: Result<String, DocError>) -> Result<String, Fault> {
     match answer {
-        Ok(text) => quoted(alloc, text.as_str()),
+        Ok(text) => in_quotes(alloc, text.as_str()),
         Err(error) => refusal(alloc, error),
     }
 }

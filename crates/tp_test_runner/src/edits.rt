@@ -1,6 +1,6 @@
 //! What an edit asks for, and the name of its change.
 
-use crate::fault::{Fault, done};
+use crate::fault::{Fault, answer_ok};
 use crate::lists::copy;
 use crate::literals::{number, text};
 use crate::shelf::Shelf;
@@ -27,7 +27,7 @@ pub fn request_of<'a>(alloc: Global, words: &mut Words<'a>) -> Result<Request<'a
     let name = words.option("as");
     let time = number(words.option("time").unwrap_or("0"))?;
     let message = text(alloc, words.option("message").unwrap_or("\"\""))?;
-    let splices = splices(alloc, words.left())?;
+    let splices = splices(alloc, words.rest())?;
     Ok(Request {
         name,
         time,
@@ -46,5 +46,5 @@ pub fn name_last(
         let change = copy(there.last().ok_or(Fault::Row("there is no change"))?)?;
         changes.put(name, change)?;
     }
-    done(changes.alloc())
+    answer_ok(changes.alloc())
 }

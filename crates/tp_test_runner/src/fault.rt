@@ -48,6 +48,6 @@ pub fn refusal(alloc: Global, error: impl Display + Drop) -> Result<String, Faul
 }
 
 /// The answer `ok`.
-pub fn done(alloc: Global) -> Result<String, Fault> {
+pub fn answer_ok(alloc: Global) -> Result<String, Fault> {
     Ok(String::from_str(alloc, "ok")?)
 }

@@ -1,6 +1,6 @@
 //! Answers for bytes that were cut or damaged, at each place.
 
-use crate::altering::complemented;
+use crate::altering::with_complement_at;
 use crate::fault::Fault;
 use crate::runs::Runs;
 use std::alloc::Global;
@@ -27,7 +27,7 @@ fn of_complement<J: Judge>(
     whole: &[u8],
     at: usize,
 ) -> Result<String, Fault> {
-    let damaged = complemented(alloc, whole, at)?;
+    let damaged = with_complement_at(alloc, whole, at)?;
     judge.judge(&damaged)
 }
 

@@ -11,15 +11,15 @@ use tp_rga::Sequence;
 /// The hash that the word `unknown` stands for, which no change of the rows has.
 pub const UNKNOWN: Hash = Hash([7; 32]);
 
-/// What stands between the brackets of a list: its items, parted by commas.
+/// What is between the brackets of a list: its items, separated by commas.
 pub fn inside(word: &str) -> Result<&str, Fault> {
     let fault = Fault::Row("no list");
-    let (inside, behind) = word
+    let (inside, beyond) = word
         .strip_prefix('[')
         .ok_or(fault)?
         .split_once(']')
         .ok_or(fault)?;
-    if behind.is_empty() {
+    if beyond.is_empty() {
         Ok(inside)
     } else {
         Err(fault)

@@ -27,13 +27,13 @@ fn run_count(word: &str) -> Result<u32, Fault> {
     word.parse::<u32>().ok().ok_or(Fault::Row("no number"))
 }
 
-/// An actor: a number up to 65,535, for its last two bytes behind zeros.
+/// An actor: a number up to 65,535, for its last two bytes after zeros.
 pub fn actor(word: &str) -> Result<Actor, Fault> {
     let number = word.parse::<u16>().ok().ok_or(Fault::Row("no actor"))?;
     Ok(actor_of(number))
 }
 
-/// The actor whose last two bytes are the number's, behind zeros.
+/// The actor whose last two bytes are the number's, after zeros.
 pub fn actor_of(number: u16) -> Actor {
     let [high, low] = number.to_be_bytes();
     Actor([0, 0, 0, 0, 0, 0, 0, 0, 0, 0, 0, 0, 0, 0, high, low])
@@ -56,22 +56,22 @@ pub fn place(word: &str) -> Result<Place, Fault> {
     Ok(Place::After(id(word)?))
 }
 
-// What stands between the quotes of a text's word, and how often.
+// What is between the quotes of a text's word, and how often.
 fn quoted_part(word: &str) -> Result<(&str, usize), Fault> {
     let fault = Fault::Row("no text");
-    let (inside, behind) = word
+    let (inside, beyond) = word
         .strip_prefix('"')
         .ok_or(fault)?
         .split_once('"')
         .ok_or(fault)?;
-    match behind.strip_prefix('*') {
+    match beyond.strip_prefix('*') {
         Some(times) => Ok((inside, count(times)?)),
-        None if behind.is_empty() => Ok((inside, 1)),
+        None if beyond.is_empty() => Ok((inside, 1)),
         None => Err(fault),
     }
 }
 
-/// A text: `"abc"`, or `"abc"*3` for three times that, one behind another. `\n` is a newline.
+/// A text: `"abc"`, or `"abc"*3` for three times that, one after another. `\n` is a newline.
 pub fn text(alloc: Global, word: &str) -> Result<String, Fault> {
     let (inside, times) = quoted_part(word)?;
     let mut text = String::new(alloc);
@@ -92,7 +92,7 @@ fn removal(word: &str) -> Result<Record, Fault> {
     }
 }
 
-// Records of one kind: `-ID` and `-ID*N` delete, and `PLACE+TEXT` inserts behind an element.
+// Records of one kind: `-ID` and `-ID*N` delete, and `PLACE+TEXT` inserts after an element.
 fn record(alloc: Global, word: &str) -> Result<Record, Fault> {
     if let Some(deleted) = word.strip_prefix('-') {
         return removal(deleted);

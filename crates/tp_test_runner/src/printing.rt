@@ -12,7 +12,7 @@ use tp_opid::{Actor, Hash, OpId, Place};
 const MOST_NAMES: usize = 12;
 
 // Whether the text is one character many times, and then which.
-fn repeated(text: &str) -> Option<char> {
+fn repeated_char(text: &str) -> Option<char> {
     let first = text.chars().next()?;
     if text.len() > 16 && text.chars().all(|ch| ch == first) {
         Some(first)
@@ -23,7 +23,7 @@ fn repeated(text: &str) -> Option<char> {
 
 /// Adds a text in quotes, its newlines as `\n`; a long one of one character as that and its number.
 pub fn put_text(out: &mut String, text: &str) -> Result<(), Fault> {
-    if let Some(ch) = repeated(text) {
+    if let Some(ch) = repeated_char(text) {
         let count = text.chars().count();
         write!(out, "\"{ch}\"*{count}")?;
         return Ok(());
@@ -41,7 +41,7 @@ pub fn put_text(out: &mut String, text: &str) -> Result<(), Fault> {
 }
 
 /// A text in quotes, as [`put_text`] adds it.
-pub fn quoted(alloc: Global, text: &str) -> Result<String, Fault> {
+pub fn in_quotes(alloc: Global, text: &str) -> Result<String, Fault> {
     let mut out = String::new(alloc);
     put_text(&mut out, text)?;
     Ok(out)
@@ -142,7 +142,7 @@ pub fn put_names(changes: &Shelf<Change>, out: &mut String, hashes: &[Hash]) -> 
     Ok(())
 }
 
-/// Adds the number and the name of an error, behind a comma where something stands before it.
+/// Adds the number and the name of an error, after a comma where something is before it.
 pub fn put_error(out: &mut String, code: u8, error: impl Display + Drop) -> Result<(), Fault> {
     let comma = if out.is_empty() { "" } else { ", " };
     write!(out, "{comma}{code} {error}")?;

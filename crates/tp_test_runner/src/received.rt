@@ -12,7 +12,7 @@ use tp_opid::Hash;
 /// More refusals than this are printed as their number.
 const MOST_REFUSED: usize = 12;
 
-/// A keeper that keeps as many changes as it says, and refuses those behind them.
+/// A keeper that keeps as many changes as it says, and refuses those after them.
 #[derive(Drop)]
 pub struct Few {
     /// How many it keeps yet.
@@ -74,7 +74,7 @@ pub fn put_applied(
     put_refused(changes, out, &applied.refused)
 }
 
-fn applied(changes: &Shelf<Change>, applied: &Applied) -> Result<String, Fault> {
+fn line_of_applied(changes: &Shelf<Change>, applied: &Applied) -> Result<String, Fault> {
     let mut out = String::new(changes.alloc());
     put_applied(changes, &mut out, applied)?;
     Ok(out)
@@ -86,7 +86,7 @@ pub fn reply<E: Display + Drop>(
     answer: Result<Applied, E>,
 ) -> Result<String, Fault> {
     match answer {
-        Ok(reply) => applied(changes, &reply),
+        Ok(reply) => line_of_applied(changes, &reply),
         Err(error) => refusal(changes.alloc(), error),
     }
 }

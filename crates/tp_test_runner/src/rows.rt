@@ -100,7 +100,7 @@ impl<C: Calls> Runner<C> {
     }
 }
 
-// The call of a row, whether it is to answer what stands behind the arrow, and that.
+// The call of a row, whether it is to answer what is after the arrow, and that.
 fn parts_of(row: &str) -> (&str, bool, &str) {
     match (row.split_once(" !=> "), row.split_once(" => ")) {
         (Some((call, other)), _) => (call, false, other),

@@ -43,7 +43,7 @@ fn push_splices(alloc: Global, made: &mut Vec<OwnedSplice>, word: &str) -> Resul
 }
 
 /// The splices, lent.
-pub fn lent<'a>(alloc: Global, owned: &'a [OwnedSplice]) -> Result<Vec<Splice<'a>>, Fault> {
+pub fn lend_splices<'a>(alloc: Global, owned: &'a [OwnedSplice]) -> Result<Vec<Splice<'a>>, Fault> {
     let mut lent = Vec::new(alloc);
     for splice in owned {
         lent.push(Splice {

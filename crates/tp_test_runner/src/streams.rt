@@ -3,7 +3,7 @@
 use std::io;
 use std::io::{ErrorKind, Read, Write};
 
-/// Gives bytes, up to so many at once.
+/// Gives bytes, up to `piece` at once.
 #[derive(Drop)]
 pub struct Input<'a> {
     /// What is left of them.
@@ -37,7 +37,7 @@ impl<'a> Input<'a> {
         }
     }
 
-    /// A byte at a time, and a failure behind so many reads.
+    /// A byte at a time, and a failure after `succeeds` reads.
     pub fn failing(bytes: &'a [u8], succeeds: usize) -> Input<'a> {
         Input {
             left: bytes,

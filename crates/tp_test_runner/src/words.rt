@@ -54,7 +54,7 @@ impl<'a> Words<'a> {
         self.take().ok_or(Fault::Row("a word is missing"))
     }
 
-    /// The word behind `KEY=`, where the next word begins so.
+    /// The word after `KEY=`, where the next word begins with that.
     pub fn option(&mut self, key: &str) -> Option<&'a str> {
         let (found, value) = self.left.first()?.as_str().split_once('=')?;
         if found != key {
@@ -74,7 +74,7 @@ impl<'a> Words<'a> {
     }
 
     /// The words that are left.
-    pub fn left(&self) -> &'a [String] {
+    pub fn rest(&self) -> &'a [String] {
         self.left
     }
 }

@@ -15,8 +15,8 @@ use std::thread::Threads;
 use std::time::{Clock, Duration};
 use tp_journal::Lockable;
 
-/// A disk that takes so many writes whole, then a part of one and none behind it, and that brings what it took to its
-/// ground so often.
+/// A disk that takes a number of writes whole, then a part of one and none after it, and that brings what it took to
+/// its ground a number of times.
 #[derive(Drop)]
 pub struct Disk {
     writes: AtomicU64,
@@ -40,7 +40,7 @@ fn spends(left: &AtomicU64) -> bool {
 }
 
 impl Disk {
-    /// So many writes, so many bytes of the next one, so many syncs.
+    /// `writes` writes, `part` bytes of the next one, `syncs` syncs.
     pub fn new(writes: u64, part: usize, syncs: u64) -> Disk {
         Disk {
             writes: AtomicU64::new(writes),

@@ -3,16 +3,16 @@
 use std::thread;
 use std::time::{Clock, Duration, Instant};
 
-// So many seconds a client waits at most, for a server that listens or for another client.
+// A client waits at most this many seconds, for a server that listens or for another client.
 const MOST: u64 = 20;
 
-// So many milliseconds it lets the others go on before it looks again.
+// It lets the others go on for this many milliseconds before it looks again.
 const PAUSE: u64 = 1;
 
 /// A time that ends.
 #[derive(Drop)]
 pub struct Patience {
-    // When it began, where the clock told.
+    // When it began, where the clock said so.
     begun: Option<Instant>,
 }
 

@@ -31,10 +31,10 @@ fn a_server_and_two_clients(rt: HostRuntime) -> Result<(), Fail> {
             (ben, ann, sync_once(&rt, "cat", place.as_str()))
         },
     );
-    assert!(rt; ben.printed("applied 0\n"));
-    assert!(rt; ann.refused("", "textpeer: Busy\n"));
-    assert!(rt; cat.printed("applied 1\n"));
-    assert!(rt; served.printed(place.printed(rt.alloc(), "served 2\n")?.as_str()));
+    assert!(rt; ben.has_printed("applied 0\n"));
+    assert!(rt; ann.was_refused("", "textpeer: Busy\n"));
+    assert!(rt; cat.has_printed("applied 1\n"));
+    assert!(rt; served.has_printed(place.output_with(rt.alloc(), "served 2\n")?.as_str()));
     assert!(rt; all_read(&rt, &["ann", "ben", "cat"], "Hello, world\n"));
     Ok(())
 }
@@ -55,7 +55,7 @@ const HELLOS: [Answered; 2] = [
     ),
 ];
 
-// What clients send behind Dora's hello. The second and the third leave within a frame, the third within one of sixteen
+// What clients send after Dora's hello. The second and the third leave within a frame, the third within one of sixteen
 // megabytes. An answer is due at the last byte, not before.
 const BEHIND: [Answered; 6] = [
     (b"", b""),
@@ -76,12 +76,13 @@ const TWICE: [Answered; 1] = [(
 fn first_unruly<R: Net + Clock + AllocGlobal>(rt: &R, addr: SocketAddr) -> Option<&'static [u8]> {
     let unknown = first_other(rt, addr, b"", &UNKNOWN, Pace::ByteByByte);
     let hellos = first_other(rt, addr, b"", &HELLOS, Pace::ByteByByte);
-    let behind = first_other(rt, addr, HELLO, &BEHIND, Pace::ByteByByte);
+    let beyond = first_other(rt, addr, HELLO, &BEHIND, Pace::ByteByByte);
     let twice = first_other(rt, addr, HELLO, &TWICE, Pace::AtOnce);
-    unknown.or(hellos).or(behind).or(twice)
+    unknown.or(hellos).or(beyond).or(twice)
 }
 
-// The session of each ends alone: Eve, who keeps to the rules, is served behind them all, and the texts are what they were.
+// The session of each ends alone: Eve, who keeps to the rules, is served after them all, and the texts are what they
+// were.
 #[test]
 fn clients_that_keep_to_no_rule(rt: HostRuntime) -> Result<(), Fail> {
     assert!(rt; begin(&rt, "dora", "dora", &["eve"]));
@@ -95,8 +96,8 @@ fn clients_that_keep_to_no_rule(rt: HostRuntime) -> Result<(), Fail> {
         },
     );
     assert_eq!(rt; other, None);
-    assert!(rt; eve.printed("applied 0\n"));
-    assert!(rt; served.printed(place.printed(rt.alloc(), "served 19\n")?.as_str()));
+    assert!(rt; eve.has_printed("applied 0\n"));
+    assert!(rt; served.has_printed(place.output_with(rt.alloc(), "served 19\n")?.as_str()));
     assert!(rt; all_read(&rt, &["dora", "eve"], "dora\n"));
     Ok(())
 }
@@ -115,8 +116,8 @@ fn a_silent_client_holds_one_worker(rt: HostRuntime) -> Result<(), Fail> {
     );
     let (was_silent, gus) = beside.ok_or("a connection")?;
     assert!(rt; was_silent);
-    assert!(rt; gus.printed("applied 0\n"));
-    assert!(rt; served.printed(place.printed(rt.alloc(), "served 2\n")?.as_str()));
+    assert!(rt; gus.has_printed("applied 0\n"));
+    assert!(rt; served.has_printed(place.output_with(rt.alloc(), "served 2\n")?.as_str()));
     assert!(rt; all_read(&rt, &["fay", "gus"], "gus\n"));
     Ok(())
 }
@@ -139,9 +140,9 @@ fn a_client_that_follows(rt: HostRuntime) -> Result<(), Fail> {
             )
         },
     );
-    assert!(rt; first.printed("applied 0\n"));
-    assert!(rt; then.ok_or("an edit")?.printed(""));
-    assert!(rt; served.printed(place.printed(rt.alloc(), "served 3\n")?.as_str()));
+    assert!(rt; first.has_printed("applied 0\n"));
+    assert!(rt; then.ok_or("an edit")?.has_printed(""));
+    assert!(rt; served.has_printed(place.output_with(rt.alloc(), "served 3\n")?.as_str()));
     assert!(rt; all_read(&rt, &["ned", "oda"], "> Hello!\n"));
     Ok(())
 }
@@ -159,33 +160,33 @@ fn a_session_over_the_standard_streams(rt: HostRuntime) -> Result<(), Fail> {
         || run_over(&rt, &["textpeer", "session", "lou"], far),
         || run_over(&rt, &["textpeer", "session", "max", "--client"], near),
     );
-    assert!(rt; lou.ok_or("a connection")?.said("applied 2\n"));
-    assert!(rt; max.ok_or("a connection")?.said("applied 1\n"));
+    assert!(rt; lou.ok_or("a connection")?.has_said("applied 2\n"));
+    assert!(rt; max.ok_or("a connection")?.has_said("applied 1\n"));
     assert!(rt; all_read(&rt, &["lou", "max"], "> Hello, world!\n"));
     Ok(())
 }
 
-// What each was told.
+// What each run answered.
 #[derive(Drop)]
-struct Told {
+struct Letters {
     hal: Ran,
     ida: Ran,
     joe: Ran,
     kim: Ran,
 }
 
-impl Told {
+impl Letters {
     // Whether Ida's change was taken, and no other one, by a server that began with this line.
     fn is_of_ida_alone(&self, listening: &str) -> bool {
-        self.ida.printed("applied 0\n")
-            && self.joe.refused("", "textpeer: RefusedByOther\n")
-            && self.kim.refused("", "textpeer: Io\n")
-            && self.hal.refused(listening, "textpeer: JournalFailed\n")
+        self.ida.has_printed("applied 0\n")
+            && self.joe.was_refused("", "textpeer: RefusedByOther\n")
+            && self.kim.was_refused("", "textpeer: Io\n")
+            && self.hal.was_refused(listening, "textpeer: JournalFailed\n")
     }
 }
 
 // Ida's session with the server, once it listens, then Joe's and Kim's.
-fn synced<R: Disk + Net + Threads + Wait + Clock + Eprint + AllocGlobal + Sync>(
+fn sync_each<R: Disk + Net + Threads + Wait + Clock + Eprint + AllocGlobal + Sync>(
     rt: &R,
     place: &Place,
 ) -> (Ran, Ran, Ran)
@@ -208,8 +209,8 @@ fn remove_all<R: Files>(rt: &R, files: &[&str]) {
 }
 
 // Hal's disk fails while he serves his journal: it takes Ida's change, and of Joe's nothing, a part, or all, but doesn't
-// bring that to its ground. Joe's session is refused, and so is Kim's, behind which the serving ends with the error. Hal's
-// journal has what Ida was told; once Hal has a disk again, Joe's change enters, if it didn't.
+// bring that to its ground. Joe's session is refused, and so is Kim's; after it the serving ends with the error. Hal's
+// journal has what was answered to Ida; once Hal has a disk again, Joe's change enters, if it didn't.
 #[test]
 fn a_journal_fails_while_it_is_served(rt: HostRuntime) -> Result<(), Fail> {
     let rows = [
@@ -234,10 +235,10 @@ fn a_journal_fails_while_it_is_served(rt: HostRuntime) -> Result<(), Fail> {
                 };
                 serve(&over, "hal", place.as_str(), "3")
             },
-            || synced(&rt, &place),
+            || sync_each(&rt, &place),
         );
-        let told = Told { hal, ida, joe, kim };
-        assert!(rt; told.is_of_ida_alone(place.printed(rt.alloc(), "")?.as_str()));
+        let reported = Letters { hal, ida, joe, kim };
+        assert!(rt; reported.is_of_ida_alone(place.output_with(rt.alloc(), "")?.as_str()));
         assert!(rt; all_read(&rt, &["hal"], text));
         assert!(rt; all_read(&rt, &["joe"], "ida hal joe\n"));
         let again = Place::free(&rt)?;
@@ -246,7 +247,7 @@ fn a_journal_fails_while_it_is_served(rt: HostRuntime) -> Result<(), Fail> {
             || serve(&rt, "hal", again.as_str(), "1"),
             || sync(&rt, "joe", again.as_str()),
         );
-        assert!(rt; served.status == 0 && joe.printed("applied 0\n"));
+        assert!(rt; served.status == 0 && joe.has_printed("applied 0\n"));
         assert!(rt; all_read(&rt, &["hal"], "ida hal joe\n"));
     }
     Ok(())

@@ -85,7 +85,7 @@ pub fn read_by_each<J: Journal>(room: Room<J>) -> (Room<J>, [usize; 3]) {
 }
 
 /// The first two seats meet.
-pub fn met<J: Journal>(room: Room<J>) -> Room<J> {
+pub fn meet_in<J: Journal>(room: Room<J>) -> Room<J> {
     let Room {
         served,
         mut one,

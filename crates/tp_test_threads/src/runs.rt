@@ -1,7 +1,7 @@
 //! Runs of the program.
 
 use crate::patience::Patience;
-use crate::strangers::{connected, is_silent_until};
+use crate::strangers::{connect_once_there, is_silent_until};
 use std::alloc::Global;
 use std::io::{Read, Write};
 use std::net::{Ipv4Addr, Net, OpenListener, OpenStream, SocketAddr, TcpListener, TcpStream};
@@ -29,24 +29,24 @@ pub struct Ran {
 
 impl Ran {
     /// Whether it was done, and printed just this.
-    pub fn printed(&self, text: &str) -> bool {
+    pub fn has_printed(&self, text: &str) -> bool {
         self.status == 0 && self.out.as_slice() == text.as_bytes() && self.err.is_empty()
     }
 
     /// Whether it was done, and said just this on the standard error.
-    pub fn said(&self, text: &str) -> bool {
+    pub fn has_said(&self, text: &str) -> bool {
         self.status == 0 && self.err.as_slice() == text.as_bytes()
     }
 
     /// Whether it was refused with just this line, and printed just this before.
-    pub fn refused(&self, text: &str, line: &str) -> bool {
+    pub fn was_refused(&self, text: &str, line: &str) -> bool {
         self.status == 1
             && self.out.as_slice() == text.as_bytes()
             && self.err.as_slice() == line.as_bytes()
     }
 }
 
-/// A run with these words, of which the first is the program's name.
+/// A run with these words. The first is the program's name.
 pub fn run<R: Disk + Net + Threads + Wait + Clock + Eprint + AllocGlobal + Sync>(
     rt: &R,
     words: &[&str],
@@ -155,12 +155,12 @@ where
 {
     let mut is_read = true;
     for file in files {
-        is_read = is_read && run(rt, &["textpeer", "text", file]).printed(text);
+        is_read = is_read && run(rt, &["textpeer", "text", file]).has_printed(text);
     }
     is_read
 }
 
-/// A server of the file's journal at the address, for so many sessions.
+/// A server of the file's journal at the address, for `sessions` sessions.
 pub fn serve<R: Disk + Net + Threads + Wait + Clock + Eprint + AllocGlobal + Sync>(
     rt: &R,
     file: &str,
@@ -192,7 +192,7 @@ where
     run(rt, &["textpeer", "sync", file, addr])
 }
 
-/// So many sessions with the server at the address, one after another, a second between two.
+/// `sessions` sessions with the server at the address, one after another, a second between two.
 pub fn follow<R: Disk + Net + Threads + Wait + Clock + Eprint + AllocGlobal + Sync>(
     rt: &R,
     file: &str,
@@ -239,7 +239,7 @@ where
 }
 
 /// A client that says nothing, and one beside it with the file's journal until that is done: whether the first was silent
-/// so long, and what the other was told.
+/// so long, and what the other one answered.
 pub fn sync_beside_silence<R: Disk + Net + Threads + Wait + Clock + Eprint + AllocGlobal + Sync>(
     rt: &R,
     file: &str,
@@ -250,7 +250,7 @@ where
     R::Listener: Sync,
     R::Stream: Send,
 {
-    let silent = connected(rt, place.addr)?;
+    let silent = connect_once_there(rt, place.addr)?;
     let is_done = AtomicBool::new(false);
     Some(join(
         rt,
@@ -286,7 +286,7 @@ impl Place {
     }
 
     /// What a server prints there, with the line in the end, or with none.
-    pub fn printed(&self, alloc: Global, line: &str) -> Result<String, Fail> {
+    pub fn output_with(&self, alloc: Global, line: &str) -> Result<String, Fail> {
         let port = self.addr.port();
         Ok(format!(in alloc; "listening {port}\n{line}")?)
     }

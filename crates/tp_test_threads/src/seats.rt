@@ -4,7 +4,7 @@ ghost use Rattle.std.specs.Prelude.{◌≡◌};
 
 use crate::gate::{Gate, GatedJournal};
 use crate::peers::{at_start, peer_on};
-use crate::room::{Room, met, peer_of, read_by_each, room_of};
+use crate::room::{Room, meet_in, peer_of, read_by_each, room_of};
 use std::alloc::Global;
 use std::sync::{Arc, Wait};
 use std::test::Fail;
@@ -14,7 +14,7 @@ use tp_journal::{Journal, MemJournal};
 use tp_served::{Seat, Served, ServedError};
 
 // A new peer, served with three seats.
-fn seated<J: Journal>(alloc: Global, journal: J, actor: u8) -> Option<Room<J>> {
+fn seat_new<J: Journal>(alloc: Global, journal: J, actor: u8) -> Option<Room<J>> {
     room_of(alloc, peer_on(alloc, journal, actor)?)
 }
 
@@ -70,7 +70,7 @@ fn write_by_two<R: Threads + Wait + Sync>(
     }
 }
 
-// How many of the edits with this text stand in the order of their times, which go from 0 on.
+// How many of the edits with this text are in the order of their times, which go from 0 on.
 fn in_order(changes: &[Change], text: &str) -> u64 {
     let mut next = 0u64;
     for change in changes {
@@ -82,7 +82,7 @@ fn in_order(changes: &[Change], text: &str) -> u64 {
 }
 
 // How many characters each of three seats reads, and how many changes of each thread the peer has in order in the end.
-fn counted(alloc: Global, room: Room<MemJournal>) -> Option<([usize; 3], [u64; 2])> {
+fn count_in(alloc: Global, room: Room<MemJournal>) -> Option<([usize; 3], [u64; 2])> {
     let (room, lens) = read_by_each(room);
     let peer = peer_of(alloc, room)?;
     let changes = peer.document().changes();
@@ -94,18 +94,18 @@ fn edited_by_two<R: Threads + Wait + Sync>(
     rt: &R,
     alloc: Global,
 ) -> Option<([usize; 3], [u64; 2])> {
-    let room = seated(alloc, MemJournal::new(Vec::new(alloc)), 1)?;
-    counted(alloc, write_by_two(rt, room, 0, 100))
+    let room = seat_new(alloc, MemJournal::new(Vec::new(alloc)), 1)?;
+    count_in(alloc, write_by_two(rt, room, 0, 100))
 }
 
-// The same, where their seats meet half-way.
+// Two threads make 100 edits each, and their seats meet half-way: what is counted then.
 fn edited_by_two_that_meet<R: Threads + Wait + Sync>(
     rt: &R,
     alloc: Global,
 ) -> Option<([usize; 3], [u64; 2])> {
-    let room = seated(alloc, MemJournal::new(Vec::new(alloc)), 1)?;
+    let room = seat_new(alloc, MemJournal::new(Vec::new(alloc)), 1)?;
     let room = write_by_two(rt, room, 0, 50);
-    counted(alloc, write_by_two(rt, met(room), 50, 100))
+    count_in(alloc, write_by_two(rt, meet_in(room), 50, 100))
 }
 
 #[test]
@@ -199,7 +199,7 @@ fn tried_while_held<R: Threads + Sync>(rt: &R, alloc: Global) -> Option<(bool, [
         memory: MemJournal::new(Vec::new(alloc)),
         gate: Arc::try_clone(&gate).ok()?,
     };
-    let room = seated(alloc, journal, 1)?;
+    let room = seat_new(alloc, journal, 1)?;
     gate.close();
     let (room, are_busy) = hold(rt, room, &gate);
     let (_room, lens) = read_by_each(room);
@@ -234,7 +234,7 @@ fn pass<R: Wait>(
 }
 
 // Three messages pass between two served peers, and one then forgets the link: the texts of both.
-fn exchanged<R: Wait>(
+fn exchange_three<R: Wait>(
     rt: &R,
     left: Room<MemJournal>,
     right: Room<MemJournal>,
@@ -266,9 +266,9 @@ fn exchanged<R: Wait>(
 
 #[test]
 fn calls_that_wait(rt: HostRuntime) -> Result<(), Fail> {
-    let left = seated(rt.alloc(), MemJournal::new(Vec::new(rt.alloc())), 1).ok_or("memory")?;
-    let right = seated(rt.alloc(), MemJournal::new(Vec::new(rt.alloc())), 2).ok_or("memory")?;
-    let (left, right) = exchanged(&rt, left, right).ok_or("no exchange")?;
+    let left = seat_new(rt.alloc(), MemJournal::new(Vec::new(rt.alloc())), 1).ok_or("memory")?;
+    let right = seat_new(rt.alloc(), MemJournal::new(Vec::new(rt.alloc())), 2).ok_or("memory")?;
+    let (left, right) = exchange_three(&rt, left, right).ok_or("no exchange")?;
     assert_eq!(rt; left.as_str(), "qabc");
     assert_eq!(rt; right.as_str(), "qabc");
     Ok(())

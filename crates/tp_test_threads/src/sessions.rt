@@ -2,7 +2,7 @@
 
 use crate::hold::{Broken, Counts, Hold};
 use crate::sides::{client, patience, server, server_without_seats};
-use crate::strangers::{Answered, Pace, UNKNOWN, connected, first_other, leaves};
+use crate::strangers::{Answered, Pace, UNKNOWN, connect_once_there, first_other, leaves};
 use std::net::{Ipv4Addr, OpenListener, SocketAddr, TcpListener};
 use std::test::Fail;
 use std::thread::join;
@@ -14,7 +14,7 @@ fn here() -> SocketAddr {
     SocketAddr::from((Ipv4Addr::LOCALHOST, 0))
 }
 
-// The document `abc` of actor 1 and the document `q` of actor 2 are one text afterwards: the greater of two actors stands
+// The document `abc` of actor 1 and the document `q` of actor 2 are one text afterwards: the greater of two actors is
 // first where both begin.
 #[test]
 fn both_sides_read_one_text(rt: HostRuntime) -> Result<(), Fail> {
@@ -98,7 +98,7 @@ const FIRST: &[u8] =
     b"\x00\x00\x00\x12\x00\x02\x00\x00\x00\x00\x00\x00\x00\x00\x00\x00\x00\x00\x00\x00\x00\x00\
     \x00\x00\x00\x12\x01\x02\x00\x00\x00\x00\x00\x00\x00\x00\x00\x00\x00\x00\x00\x00\x00\x00";
 
-// The session of a client that closes its connection behind its first message ends alone: another client is served on
+// The session of a client that closes its connection after its first message ends alone: another client is served on
 // the same seat.
 #[test]
 fn a_client_leaves(rt: HostRuntime) -> Result<(), Fail> {
@@ -128,7 +128,7 @@ fn a_silent_client_ends(rt: HostRuntime) -> Result<(), Fail> {
         &rt,
         || server(&rt, &listener, 1, 2, short, &gate),
         || {
-            let silent = connected(&rt, addr);
+            let silent = connect_once_there(&rt, addr);
             let last = client(&rt, addr, 2, "q");
             (silent.is_some(), last)
         },

@@ -26,8 +26,8 @@ fn document<R: AllocGlobal>(rt: &R, number: u8, text: &str) -> Option<Peer<MemJo
     Some(peer)
 }
 
-// The same, served to as many seats.
-fn served<R: AllocGlobal>(
+// A document with the text, served with `seats` seats.
+fn serve_seats<R: AllocGlobal>(
     rt: &R,
     number: u8,
     text: &str,
@@ -52,8 +52,8 @@ fn text_of<R: Wait>(rt: &R, served: &Served<MemJournal>, seats: Vec<Seat>) -> Op
     }
 }
 
-/// Serves `abc` of actor 1 to so many sessions on so many seats, with the patience; the text afterwards. `None` where that is
-/// refused.
+/// Serves `abc` of actor 1 to `sessions` sessions on `seats` seats, with the patience; the text afterwards. `None`
+/// where that is refused.
 pub fn server<
     R: AllocGlobal + Threads + Wait + Clock + Sync,
     S: Read + Write + OpenStream + Send + Drop,
@@ -67,7 +67,7 @@ pub fn server<
     patience: Option<Duration>,
     gate: &G,
 ) -> Option<String> {
-    let (served, seats) = served(rt, 1, "abc", seats)?;
+    let (served, seats) = serve_seats(rt, 1, "abc", seats)?;
     match serve(
         rt,
         rt.alloc(),
@@ -83,13 +83,14 @@ pub fn server<
     }
 }
 
-/// Serves `abc` of actor 1 to so many sessions without a seat: how many seats come back. `None` where that is refused.
+/// Serves `abc` of actor 1 to `sessions` sessions without a seat: how many seats come back. `None` where that is
+/// refused.
 pub fn server_without_seats<
     R: AllocGlobal + Threads + Wait + Clock + Sync,
     S: Read + Write + OpenStream + Send + Drop,
     L: OpenListener<Stream = S>,
 >(rt: &R, listener: &L, sessions: u64) -> Option<usize> {
-    let (served, _seats) = served(rt, 1, "abc", 1)?;
+    let (served, _seats) = serve_seats(rt, 1, "abc", 1)?;
     let none = Vec::new(rt.alloc());
     match serve(
         rt,
@@ -124,7 +125,7 @@ fn client_at<R: AllocGlobal + Net + Wait>(
     }
 }
 
-// The same, on the last of the seats.
+// One session as the client on the last of the seats: how many changes entered, and the text afterwards.
 fn client_on<R: AllocGlobal + Net + Wait>(
     rt: &R,
     addr: SocketAddr,
@@ -147,6 +148,6 @@ pub fn client<R: AllocGlobal + Net + Wait>(
     number: u8,
     text: &str,
 ) -> Option<(u64, String)> {
-    let (served, seats) = served(rt, number, text, 1)?;
+    let (served, seats) = serve_seats(rt, number, text, 1)?;
     client_on(rt, addr, &served, seats)
 }

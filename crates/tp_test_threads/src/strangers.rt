@@ -32,7 +32,7 @@ pub enum Pace {
 }
 
 /// A connection with the server at the address, once that listens: till then it is refused.
-pub fn connected<R: Net + Clock>(rt: &R, addr: SocketAddr) -> Option<R::Stream> {
+pub fn connect_once_there<R: Net + Clock>(rt: &R, addr: SocketAddr) -> Option<R::Stream> {
     let patience = Patience::new(rt);
     for _ in 0..u64::MAX {
         if let Ok(stream) = TcpStream::connect(rt, addr) {
@@ -83,7 +83,7 @@ fn is_answered<R: AllocGlobal + Net + Clock>(
     row: Answered,
     pace: Pace,
 ) -> bool {
-    let Some(stream) = connected(rt, addr) else {
+    let Some(stream) = connect_once_there(rt, addr) else {
         return false;
     };
     match exchange(rt, stream, hello, row.0, pace) {
@@ -92,7 +92,7 @@ fn is_answered<R: AllocGlobal + Net + Clock>(
     }
 }
 
-/// One client after another, each of which says the hello first: what the first one sent that was answered otherwise.
+/// One client after another. Each says the hello first: what the first one sent that was answered otherwise.
 pub fn first_other<R: AllocGlobal + Net + Clock>(
     rt: &R,
     addr: SocketAddr,
@@ -117,7 +117,7 @@ fn is_left<S: Write + Drop>(stream: S, bytes: &[u8]) -> bool {
 
 /// A client that sends the bytes, and closes its connection with no look at an answer. Whether they were sent.
 pub fn leaves<R: Net + Clock>(rt: &R, addr: SocketAddr, bytes: &[u8]) -> bool {
-    match connected(rt, addr) {
+    match connect_once_there(rt, addr) {
         Some(stream) => is_left(stream, bytes),
         None => false,
     }

@@ -19,6 +19,6 @@ pub use tp_posindex::BlockSequence;
 pub use tp_store::{StoreError, load, save};
 pub use tp_sync::{Exchanged, Message, SyncError, SyncState, exchange, generate, receive};
 
-/// A document whose elements stand in blocks, so that an edit, a look-up by position and a remote insert go over one
+/// A document whose elements are in blocks, so that an edit, a look-up by position and a remote insert go over one
 /// block and not over the whole text.
 pub type TextDocument = Document<BlockSequence>;

@@ -7,9 +7,9 @@ use Rattle.tp_opid.specs.declared.actor.Actor.{Actor}
 use Rattle.tp_opid.specs.declared.hash.Hash.{Hash}
 use Rattle.tp_opid.specs.declared.op_id.OpId.{OpId}
 use Rattle.tp_opid.specs.Insert.{Insert}
-use Rattle.tp_opid.specs.Tree.{IsTree}
+use Rattle.tp_opid.specs.Tree.{IsTree, IsAboveAll}
 use Rattle.tp_opid.proofs.Orders.{same_actor-same}
-use Rattle.tp_change.specs.declared.parts.ChangeParts.{ChangeParts}
+use Rattle.tp_layout.specs.declared.parts.ChangeParts.{ChangeParts}
 use Rattle.tp_change.specs.ChangeHash.{hash_of}
 use Rattle.tp_change.specs.Elements.{inserts, inserts_in, deletes_in, refers, later, next_counter}
 use Rattle.tp_change.specs.Operations.{ops_of, op_count, id_of}
@@ -17,8 +17,8 @@ use Rattle.tp_change.proofs.Numbered.{Numbered-ops_of}
 use Rattle.tp_change.proofs.OpsLaws.{length-ops_of}
 use Rattle.tp_change.proofs.ElementLaws.{inserts-push, deletes-push, next_counter-push, refers-same, SameIds-members}
 use Rattle.tp_rga.specs.Order.{IsInOrder}
-use Rattle.tp_text.specs.Applying.{Extends, AllUnder}
-use Rattle.tp_text.proofs.Numbered.{AllUnder-ops, AllUnder-up}
+use Rattle.tp_edit.specs.Applying.{Extends}
+use Rattle.tp_edit.proofs.Numbered.{IsAboveAll-ops, IsAboveAll-up}
 use Rattle.tp_textpeer.specs.declared.error.ShowFault.TheVariants.{NotChain, BadSeq, BadStart, BadReference}
 use Rattle.tp_textpeer.specs.Log.{first_actor, last_hash, is_by, depends_on, link_fault}
 use Rattle.tp_textpeer.specs.Chain.{Remembers, AllBelowCounter}
@@ -79,8 +79,8 @@ AllBelowCounter-push c L M n start below grown a e there =
     let size = length-ops_of c in
     let up : n ≤ c.start + op_count c = omega arith in
     elim (In-append e L (inserts_in (ops_of c)) (grown.members.back e there)) [
-      | inl old ↦ AllUnder-up L a n (c.start + op_count c) up (below a) e old
-      | inr new ↦ subst (λ m. AllUnder (inserts_in (ops_of c)) (id_of a m)) (ap (λ m. c.start + m) size) (AllUnder-ops (ops_of c) c.actor a c.start (Numbered-ops_of c)) e new
+      | inl old ↦ IsAboveAll-up L a n (c.start + op_count c) up (below a) e old
+      | inr new ↦ subst (λ m. IsAboveAll (inserts_in (ops_of c)) (id_of a m)) (ap (λ m. c.start + m) size) (IsAboveAll-ops (ops_of c) c.actor a c.start (Numbered-ops_of c)) e new
     ]
 
 -- ---- the tests by what is kept

@@ -1,31 +1,27 @@
 -- Logs: one actor's changes, each on the one before.
-use Rattle.std.specs.Prelude.{◌≡◌, ℕ, ◌+◌, ◌==◌, ◌<◌, nat_lt, ◌&&◌, Bool, true, false, cond, if◌then◌else◌, List, [], ◌∷◌, ◌++◌, length, take, drop, ◌≤◌, IfSome, Option, Some, None, Result, Ok, Err}
+use Rattle.std.specs.Prelude.{◌≡◌, ℕ, ◌+◌, ◌==◌, ◌<◌, nat_lt, ◌&&◌, Bool, true, false, if◌then◌else◌, List, [], ◌∷◌, ◌++◌, length, take, drop, ◌≤◌, IfSome, Option, Some, None, Result, Ok, Err}
 use Rattle.std.specs.Int.{w32, from_be_bytes, to_be_bytes}
 use Rattle.std.specs.Io.KnownBytes.{Consumes, IsAtEnd}
 use Rattle.std.specs.List.{flat_map, AllByRecursion}
 use Rattle.tp_opid.specs.declared.actor.Actor.{Actor}
 use Rattle.tp_opid.specs.declared.hash.Hash.{Hash}
 use Rattle.tp_opid.specs.Same.{same_actor, same_hash}
-use Rattle.tp_change.specs.declared.limits.TheConstants.{MAX_BYTES}
-use Rattle.tp_change.specs.declared.error.ChangeError.{ChangeError}
-use Rattle.tp_change.specs.declared.error.ChangeError.TheVariants as change_error
-use Rattle.tp_change.specs.declared.parts.ChangeParts.{ChangeParts}
+use Rattle.tp_layout.specs.declared.limits.TheConstants.{MAX_BYTES}
+use Rattle.tp_layout.specs.declared.error.ChangeError.{ChangeError}
+use Rattle.tp_layout.specs.declared.error.ChangeError.TheVariants as change_error
+use Rattle.tp_layout.specs.declared.parts.ChangeParts.{ChangeParts}
 use Rattle.tp_change.specs.ChangeHash.{hash_of}
 use Rattle.tp_change.specs.Elements.{inserts, refers, next_counter}
-use Rattle.tp_change.specs.Limits.{IsChange}
+use Rattle.tp_layout.specs.Limits.{IsChange}
 use Rattle.tp_change.specs.Operations.{ops_of}
-use Rattle.tp_change.specs.Reading.{change_at}
-use Rattle.tp_change.specs.Spelling.{spelling}
+use Rattle.tp_layout.specs.Reading.{change_at}
+use Rattle.tp_layout.specs.Spelling.{spelling, framed_change}
 use Rattle.tp_textpeer.specs.declared.error.ShowFault.{ShowFault}
 use Rattle.tp_textpeer.specs.declared.error.ShowFault.TheVariants.{NotChain, BadSeq, BadStart, BadReference, Change}
 
--- a change in a log: its length in 4 bytes, and its bytes
-abbrev pub entry : ChangeParts → List ℕ
-entry c = to_be_bytes w32 (length (spelling c)) ++ spelling c
-
 -- the bytes of a log: its changes one after another
 abbrev pub log_of : List ChangeParts → List ℕ
-log_of C = flat_map entry C
+log_of C = flat_map framed_change C
 
 -- whose log it is: the first change's actor
 abbrev pub first_actor : List ChangeParts → Option Actor
@@ -51,18 +47,17 @@ depends_on (Some g) [] = false
 depends_on (Some g) (h ∷ []) = same_hash g h
 depends_on (Some g) (h ∷ k ∷ hs) = false
 
--- What is wrong with the change c behind the changes C of a log, the first that holds; None where it may follow.
+-- What is wrong with the change c after the changes C of a log, the first that holds; None where it may follow.
 unfoldable pub link_fault : List ChangeParts → ChangeParts → Option ShowFault
 link_fault C c =
-    cond (is_by (first_actor C) c.actor && depends_on (last_hash C) c.deps)
-    (cond (c.seq == length C + 1)
-    (cond (c.start == next_counter C)
-    (cond (refers (inserts C) (ops_of c)) None (Some BadReference))
-    (Some BadStart))
-    (Some BadSeq))
-    (Some NotChain)
+    if is_by (first_actor C) c.actor && depends_on (last_hash C) c.deps then
+    (if c.seq == length C + 1 then
+    (if c.start == next_counter C then (if refers (inserts C) (ops_of c) then None else Some BadReference)
+    else Some BadStart)
+    else Some BadSeq)
+    else Some NotChain
 
--- Each change may follow those of `before` and those of the list that stand before it.
+-- Each change may follow those of `before` and those of the list that are before it.
 abbrev pub LinkedAfter : List ChangeParts → List ChangeParts → Type 0
 LinkedAfter before [] = Unit {0}
 LinkedAfter before (c ∷ C) = (link_fault before c ≡ None) × LinkedAfter (before ++ c ∷ []) C
@@ -88,14 +83,14 @@ sized_entry_at n bytes =
     else with_rest (change_at (take n bytes)) (drop n bytes)
 
 -- the change at the start of the bytes and the bytes after it, or what is wrong there
-unfoldable pub entry_at : List ℕ → Result (ChangeParts × List ℕ) ShowFault
-entry_at bytes =
+unfoldable pub logged_change_at : List ℕ → Result (ChangeParts × List ℕ) ShowFault
+logged_change_at bytes =
     if nat_lt (length bytes) 4 then Err (Change change_error.Short)
     else sized_entry_at (from_be_bytes w32 (take 4 bytes)) (drop 4 bytes)
 
--- What stands at the start of the known bytes has the fault.
+-- What is at the start of the known bytes has the fault.
 abbrev pub StartsBadly : Option (List ℕ) → ShowFault → Type 0
-StartsBadly known f = IfSome known (λ b. (0 < length b) × (entry_at b ≡ Err f))
+StartsBadly known f = IfSome known (λ b. (0 < length b) × (logged_change_at b ≡ Err f))
 
 -- Between the two the length n of a change was read, which is within the limit.
 pub record ReadsLength (before after : Option (List ℕ)) (n : ℕ) : Type 0 where
@@ -103,13 +98,13 @@ pub record ReadsLength (before after : Option (List ℕ)) (n : ℕ) : Type 0 whe
   pub few : n ≤ MAX_BYTES
   pub bytes : Consumes before after (to_be_bytes w32 n)
 
--- what is wrong with what stands behind the changes C
-abbrev pub fault_behind : List ChangeParts → Result (ChangeParts × List ℕ) ShowFault → Option ShowFault
-fault_behind C (Ok x) = link_fault C x.0
-fault_behind C (Err f) = Some f
+-- what is wrong with what is after the changes C
+abbrev pub fault_after : List ChangeParts → Result (ChangeParts × List ℕ) ShowFault → Option ShowFault
+fault_after C (Ok x) = link_fault C x.0
+fault_after C (Err f) = Some f
 
--- The bytes begin as a log of n changes, and what stands behind these has the fault.
-pub record IsFault (bytes : List ℕ) (n : ℕ) (fault : ShowFault) : Type 0 where
+-- The bytes begin as a log of n changes, and what is after these has the fault.
+pub record IsLogFault (bytes : List ℕ) (n : ℕ) (fault : ShowFault) : Type 0 where
   pub good : List ChangeParts
   pub rest : List ℕ
   pub count : length good ≡ n
@@ -117,14 +112,14 @@ pub record IsFault (bytes : List ℕ) (n : ℕ) (fault : ShowFault) : Type 0 whe
   pub each : AllByRecursion IsChange good
   pub linked : LinkedAfter [] good
   pub more : 0 < length rest
-  pub wrong : fault_behind good (entry_at rest) ≡ Some fault
+  pub wrong : fault_after good (logged_change_at rest) ≡ Some fault
 
 -- Between the two nothing was read, and nothing is left.
-abbrev pub Ends : Option (List ℕ) → Option (List ℕ) → Type 0
-Ends before after = Consumes before after [] × IsAtEnd after
+abbrev pub FindsEnd : Option (List ℕ) → Option (List ℕ) → Type 0
+FindsEnd before after = Consumes before after [] × IsAtEnd after
 
--- Of the known bytes `whole`, `left` are left behind the n changes C of a log.
-pub record Stands (whole left : Option (List ℕ)) (n : ℕ) (C : List ChangeParts) : Type 0 where
+-- Of the known bytes `whole`, `left` are left after the n changes C of a log.
+pub record IsAfterLog (whole left : Option (List ℕ)) (n : ℕ) (C : List ChangeParts) : Type 0 where
   pub count : length C ≡ n
   pub each : AllByRecursion IsChange C
   pub linked : LinkedAfter [] C

@@ -1,8 +1,8 @@
 -- The text of a refusal.
 use Rattle.std.specs.Prelude.{ℕ, Bool, true, false, List, ◌++◌, codes, if◌then◌else◌}
 use Rattle.std.specs.Fmt.{decimal}
-use Rattle.tp_change.specs.declared.error.ChangeError.{ChangeError}
-use Rattle.tp_change.specs.declared.error.ChangeError.TheVariants as change
+use Rattle.tp_layout.specs.declared.error.ChangeError.{ChangeError}
+use Rattle.tp_layout.specs.declared.error.ChangeError.TheVariants as change
 use Rattle.tp_textpeer.specs.declared.error.ShowError.{ShowError}
 use Rattle.tp_textpeer.specs.declared.error.ShowFault.{ShowFault}
 use Rattle.tp_textpeer.specs.declared.error.ShowFault.TheVariants as fault
@@ -39,6 +39,6 @@ is_outside fault.Io = true
 is_outside _ = false
 
 -- the line that is printed of a refusal
-abbrev pub refusal_text : ShowError → List ℕ
-refusal_text e = if is_outside e.fault then codes "textpeer: " ++ fault_name e.fault
+abbrev pub show_refusal_text : ShowError → List ℕ
+show_refusal_text e = if is_outside e.fault then codes "textpeer: " ++ fault_name e.fault
     else codes "show: change " ++ decimal e.change ++ codes ": " ++ fault_name e.fault

@@ -13,5 +13,5 @@ code_of OutOfMemory = 6
 code_of Io = 7
 
 -- a growth was refused, or the reader or the writer failed
-abbrev pub IsOutside : ShowFault → Type 0
-IsOutside f = (f ≡ OutOfMemory) ⊎ (f ≡ Io)
+abbrev pub IsOutsideFault : ShowFault → Type 0
+IsOutsideFault f = (f ≡ OutOfMemory) ⊎ (f ≡ Io)

@@ -1,7 +1,7 @@
 //! The changes of a log as they come, and what is kept of them.
 
 ghost use Rattle.std.specs.Prelude.{◌≡◌, ◌⊎◌, ◌&&◌, ◌+◌, ◌<◌, ◌^◌, List, [], ◌∷◌, ◌++◌, length, Some, None, OnOk, IfErr};
-ghost use Rattle.tp_change.specs.declared.parts.ChangeParts.{ChangeParts};
+ghost use Rattle.tp_layout.specs.declared.parts.ChangeParts.{ChangeParts};
 ghost use Rattle.tp_textpeer.specs.declared.error.ShowFault.TheVariants.{OutOfMemory};
 ghost use Rattle.tp_textpeer.specs.Log.{is_by, depends_on, link_fault};
 ghost use Rattle.tp_textpeer.specs.Chain.{Remembers, AllBelowCounter};
@@ -9,9 +9,9 @@ ghost use Rattle.tp_textpeer.specs.Chain.{Remembers, AllBelowCounter};
 use crate::error::ShowFault;
 use std::alloc::Global;
 use tp_change::Change;
+use tp_edit::apply_checked;
 use tp_opid::{Actor, Hash};
 use tp_rga::Sequence;
-use tp_text::apply_checked;
 
 /// What is kept of the changes so far: their elements, and what the next change is judged by.
 #[derive(Drop)]
@@ -33,7 +33,7 @@ fn is_author(author: Option<Actor>, actor: &Actor) -> bool
 }
 
 // Whether a change depends on just the last one.
-fn is_behind(last: Option<Hash>, deps: &[Hash]) -> bool
+fn is_after(last: Option<Hash>, deps: &[Hash]) -> bool
     ensures { result ≡ depends_on last deps.now }
 {
     match (last, deps) {
@@ -47,10 +47,10 @@ fn is_behind(last: Option<Hash>, deps: &[Hash]) -> bool
 fn is_chained(author: Option<Actor>, last: Option<Hash>, change: &Change) -> bool
     ensures { result ≡ (is_by author change.now.actor && depends_on last change.now.deps) }
 {
-    is_author(author, &change.actor()) && is_behind(last, change.deps())
+    is_author(author, &change.actor()) && is_after(last, change.deps())
 }
 
-// Puts in the next change, where it may follow those that came before it, of which there are `count`.
+// Puts in the next change, where it may follow the `count` changes that came before it.
 pub(crate) fn admit<S: Sequence>(
     chain: &mut Chain<S>,
     count: u64,

@@ -3,11 +3,11 @@
 ghost use Rattle.std.specs.Prelude.{◌≡◌, ◌⊎◌, ◌<◌, ◌≤◌, IfOk, IfErr, IfNone, IfSome, length};
 ghost use Rattle.std.specs.Int.{w32, from_be_bytes, to_be_bytes};
 ghost use Rattle.std.specs.Io.KnownBytes.{Consumes};
-ghost use Rattle.tp_change.specs.declared.limits.TheConstants.{MAX_BYTES};
-ghost use Rattle.tp_change.specs.Limits.{IsChange};
-ghost use Rattle.tp_change.specs.Spelling.{spelling};
-ghost use Rattle.tp_textpeer.specs.ShowFault.{IsOutside};
-ghost use Rattle.tp_textpeer.specs.Log.{Ends, entry, sized_entry_at, StartsBadly, ReadsLength};
+ghost use Rattle.tp_layout.specs.declared.limits.TheConstants.{MAX_BYTES};
+ghost use Rattle.tp_layout.specs.Limits.{IsChange};
+ghost use Rattle.tp_layout.specs.Spelling.{spelling, framed_change};
+ghost use Rattle.tp_textpeer.specs.ShowFault.{IsOutsideFault};
+ghost use Rattle.tp_textpeer.specs.Log.{FindsEnd, sized_entry_at, StartsBadly, ReadsLength};
 
 use crate::error::ShowFault;
 use crate::input::read_up_to;
@@ -27,11 +27,11 @@ fn number_in(bytes: &[u8]) -> u32
 // The length of the next change, where there is one.
 fn next_len<R: Read>(reader: &mut R, buffer: &mut Vec<u8>) -> Result<Option<usize>, ShowFault>
     ensures end { IfOk result
-        (λ found. IfNone found (Ends (R.remaining reader.old) (R.remaining reader.new))) }
+        (λ found. IfNone found (FindsEnd (R.remaining reader.old) (R.remaining reader.new))) }
     ensures some { IfOk result
         (λ found. IfSome found (λ n. ReadsLength (R.remaining reader.old)
         (R.remaining reader.new) n)) }
-    ensures err { IfErr result (λ f. IsOutside f ⊎ StartsBadly (R.remaining reader.old) f) }
+    ensures err { IfErr result (λ f. IsOutsideFault f ⊎ StartsBadly (R.remaining reader.old) f) }
 {
     read_up_to(reader, buffer, 4)?;
     if buffer.is_empty() {
@@ -50,7 +50,7 @@ fn next_len<R: Read>(reader: &mut R, buffer: &mut Vec<u8>) -> Result<Option<usiz
     Ok(Some(len))
 }
 
-// The change of so many bytes that the reader gives next.
+// The change of `len` bytes that the reader gives next.
 fn sized_change<R: Read>(
     alloc: Global,
     reader: &mut R,
@@ -63,7 +63,7 @@ fn sized_change<R: Read>(
     ensures bytes { IfOk result
         (λ c. Consumes (R.remaining reader.old) (R.remaining reader.new) (spelling c)) }
     ensures err { IfErr result
-        (λ f. IsOutside f ⊎ IfSome (R.remaining reader.old)
+        (λ f. IsOutsideFault f ⊎ IfSome (R.remaining reader.old)
         (λ rest. sized_entry_at len rest ≡ Err f)) }
 {
     read_up_to(reader, buffer, len)?;
@@ -84,11 +84,11 @@ pub(crate) fn next_change<R: Read>(
     buffer: &mut Vec<u8>,
 ) -> Result<Option<Change>, ShowFault>
     ensures end { IfOk result
-        (λ found. IfNone found (Ends (R.remaining reader.old) (R.remaining reader.new))) }
+        (λ found. IfNone found (FindsEnd (R.remaining reader.old) (R.remaining reader.new))) }
     ensures some { IfOk result
         (λ found. IfSome found (λ c. IsChange c
-        × Consumes (R.remaining reader.old) (R.remaining reader.new) (entry c))) }
-    ensures err { IfErr result (λ f. IsOutside f ⊎ StartsBadly (R.remaining reader.old) f) }
+        × Consumes (R.remaining reader.old) (R.remaining reader.new) (framed_change c))) }
+    ensures err { IfErr result (λ f. IsOutsideFault f ⊎ StartsBadly (R.remaining reader.old) f) }
 {
     match next_len(reader, buffer)? {
         None => Ok(None),

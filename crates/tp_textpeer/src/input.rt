@@ -2,7 +2,7 @@
 
 ghost use Rattle.std.specs.Prelude.{◌≡◌, ℕ, ◌+◌, ◌<◌, ◌≤◌, List, ◌++◌, OnOk, IfOk, IfErr, vec_len};
 ghost use Rattle.std.specs.Io.KnownBytes.{Consumes, IsAtEnd};
-ghost use Rattle.tp_textpeer.specs.ShowFault.{IsOutside};
+ghost use Rattle.tp_textpeer.specs.ShowFault.{IsOutsideFault};
 
 use crate::error::ShowFault;
 use std::io::{ErrorKind, Read};
@@ -20,7 +20,7 @@ pub(crate) fn read_up_to<R: Read>(
         (Consumes (R.remaining reader.old) (R.remaining reader.new) buffer.new.items) }
     ensures within { OnOk result (vec_len buffer.new ≤ len) }
     ensures end { OnOk result (vec_len buffer.new < len → IsAtEnd (R.remaining reader.new)) }
-    ensures outside { IfErr result IsOutside }
+    ensures outside { IfErr result IsOutsideFault }
 {
     buffer.clear();
     for _ in 0..u64::MAX {
@@ -43,7 +43,7 @@ fn read_chunk<R: Read>(
         (λ n. (prefix : List ℕ) × (buffer.new.items ≡ buffer.old.items ++ prefix)
         × Consumes (R.remaining reader.old) (R.remaining reader.new) prefix) }
     ensures end { IfOk result (λ n. n ≡ 0 → 0 < most → IsAtEnd (R.remaining reader.new)) }
-    ensures outside { IfErr result IsOutside }
+    ensures outside { IfErr result IsOutsideFault }
 {
     let mut chunk = [0u8; CHUNK];
     let len = CHUNK.min(most);

@@ -1,7 +1,7 @@
 //! What the program prints of a log that it refuses.
 
 ghost use Rattle.std.specs.Prelude.{◌≡◌, Some};
-ghost use Rattle.tp_textpeer.specs.Refusal.{change_name, fault_name, is_outside as is_outside_of, refusal_text};
+ghost use Rattle.tp_textpeer.specs.Refusal.{change_name, fault_name, is_outside as is_outside_of, show_refusal_text};
 
 use crate::error::{ShowError, ShowFault};
 use std::fmt;
@@ -14,7 +14,7 @@ use tp_change::ChangeError;
 pub struct Refusal(pub ShowError);
 
 impl fmt::Display for Refusal {
-    ghost output = { λ r. Some (refusal_text r.0) };
+    ghost output = { λ r. Some (show_refusal_text r.0) };
 
     fn fmt<W: fmt::Write>(&self, f: &mut fmt::Formatter<W>) -> fmt::Result {
         let change = self.0.change;

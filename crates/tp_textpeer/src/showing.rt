@@ -1,15 +1,15 @@
 //! The text of a log.
 
-ghost use Rattle.std.specs.Prelude.{◌≡◌, ◌⊎◌, ◌+◌, ◌<◌, ◌^◌, ℕ, List, [], ◌∷◌, ◌++◌, true, false, IfOk, IfErr, IfSome, OnOk, Option};
+ghost use Rattle.std.specs.Prelude.{◌≡◌, ◌⊎◌, ◌+◌, ◌<◌, ◌^◌, ℕ, List, [], ◌∷◌, ◌++◌, true, false, IfOk, IfErr, IfSome, OnOk, Option, IsTrue};
 ghost use Rattle.std.specs.Io.KnownBytes.{Consumes, IsAtEnd, Keeps};
 ghost use Rattle.std.specs.String.{string_bytes};
-ghost use Rattle.tp_change.specs.declared.parts.ChangeParts.{ChangeParts};
-ghost use Rattle.tp_rga.specs.Shown.{shown};
-ghost use Rattle.tp_text.specs.Text.{chars_of};
+ghost use Rattle.tp_layout.specs.declared.parts.ChangeParts.{ChangeParts};
+ghost use Rattle.tp_rga.specs.Shown.{visible_of};
+ghost use Rattle.tp_edit.specs.Text.{chars_of};
 ghost use Rattle.tp_textpeer.specs.declared.error.ShowFault.TheVariants.{Io};
-ghost use Rattle.tp_textpeer.specs.ShowFault.{IsOutside};
-ghost use Rattle.tp_textpeer.specs.Show.{line, Gives, Shows, ShowsPart, Refuses};
-ghost use Rattle.tp_textpeer.specs.Log.{Stands, IsLog, IsFault, Ends, log_of};
+ghost use Rattle.tp_textpeer.specs.ShowFault.{IsOutsideFault};
+ghost use Rattle.tp_textpeer.specs.Show.{utf8_line, GivesLog, Shows, ShowsPart, RefusesLog};
+ghost use Rattle.tp_textpeer.specs.Log.{IsAfterLog, IsLog, IsLogFault, FindsEnd, log_of};
 ghost use Rattle.tp_textpeer.specs.Chain.{Remembers, AllBelowCounter};
 
 use crate::chain::{Chain, admit};
@@ -18,8 +18,8 @@ use crate::error::{ShowError, ShowFault};
 use crate::output::write_out;
 use std::alloc::{AllocError, Global};
 use std::io::{Read, Write};
+use tp_edit::text;
 use tp_rga::{PlainSequence, Sequence};
-use tp_text::text;
 
 // Reads the next change and puts it in; answers whether there was one.
 fn step<S: Sequence, R: Read>(
@@ -34,21 +34,21 @@ fn step<S: Sequence, R: Read>(
     ensures below { IfOk result
         (λ _. AllBelowCounter (S.placed chain.new.sequence) chain.new.next) }
     ensures more { IfOk result
-        (λ more. more ≡ true → (whole : Option (List ℕ)) (C : List ChangeParts)
-        → Stands whole (R.remaining reader.old) count C
+        (λ more. IsTrue more → (whole : Option (List ℕ)) (C : List ChangeParts)
+        → IsAfterLog whole (R.remaining reader.old) count C
         → Remembers C (S.placed chain.old.sequence)
         (S.removals chain.old.sequence) chain.old.author chain.old.last chain.old.next
-        → (c : ChangeParts) × Stands whole (R.remaining reader.new) (count + 1) (C ++ c ∷ [])
+        → (c : ChangeParts) × IsAfterLog whole (R.remaining reader.new) (count + 1) (C ++ c ∷ [])
         × Remembers (C ++ c ∷ []) (S.placed chain.new.sequence)
         (S.removals chain.new.sequence) chain.new.author chain.new.last chain.new.next) }
     ensures ended { IfOk result
-        (λ more. more ≡ false → Ends (R.remaining reader.old) (R.remaining reader.new)
+        (λ more. more ≡ false → FindsEnd (R.remaining reader.old) (R.remaining reader.new)
         × (chain.new ≡ chain.old)) }
-    ensures err { IfErr result (λ f. IsOutside f ⊎ ((whole : Option (List ℕ)) (C : List ChangeParts)
-        → Stands whole (R.remaining reader.old) count C
+    ensures err { IfErr result (λ f. IsOutsideFault f ⊎ ((whole : Option (List ℕ)) (C : List ChangeParts)
+        → IsAfterLog whole (R.remaining reader.old) count C
         → Remembers C (S.placed chain.old.sequence)
         (S.removals chain.old.sequence) chain.old.author chain.old.last chain.old.next
-        → IfSome whole (λ bytes. IsFault bytes count f))) }
+        → IfSome whole (λ bytes. IsLogFault bytes count f))) }
 {
     match next_change(alloc, reader, buffer) {
         Ok(Some(change)) => match admit(chain, count, &change) {
@@ -63,8 +63,8 @@ fn step<S: Sequence, R: Read>(
 // The refusal of the change with this number.
 fn at_change(change: u64, fault: ShowFault) -> ShowError
     ensures fault { result.fault ≡ fault }
-    ensures outside { IsOutside fault → result.change ≡ 0 }
-    ensures inside { IsOutside fault ⊎ (result.change ≡ change) }
+    ensures outside { IsOutsideFault fault → result.change ≡ 0 }
+    ensures inside { IsOutsideFault fault ⊎ (result.change ≡ change) }
 {
     match fault {
         ShowFault::OutOfMemory | ShowFault::Io => ShowError { change: 0, fault },
@@ -79,7 +79,7 @@ fn read_log<S: Sequence, R: Read>(alloc: Global, reader: &mut R) -> Result<Chain
         × IsAtEnd (R.remaining reader.new)
         × Remembers C (S.placed chain.sequence)
         (S.removals chain.sequence) chain.author chain.last chain.next) }
-    ensures err { IfErr result (Refuses (R.remaining reader.old)) }
+    ensures err { IfErr result (RefusesLog (R.remaining reader.old)) }
 {
     let mut chain = Chain {
         sequence: S::new(alloc),
@@ -101,7 +101,7 @@ fn read_log<S: Sequence, R: Read>(alloc: Global, reader: &mut R) -> Result<Chain
 // The text of a sequence, and a newline.
 fn line_of<S: Sequence>(alloc: Global, sequence: &S) -> Result<String, AllocError>
     ensures { IfOk result (λ text. string_bytes text
-        ≡ line (chars_of (shown (S.removals sequence.now) (S.placed sequence.now)))) }
+        ≡ utf8_line (chars_of (visible_of (S.removals sequence.now) (S.placed sequence.now)))) }
 {
     let mut text = text(alloc, sequence)?;
     text.push('\n')?;
@@ -111,9 +111,9 @@ fn line_of<S: Sequence>(alloc: Global, sequence: &S) -> Result<String, AllocErro
 // The text of a log, and a newline.
 fn text_of_log<S: Sequence, R: Read>(alloc: Global, reader: &mut R) -> Result<String, ShowError>
     ensures ok { IfOk result
-        (λ text. (t : List ℕ) × Gives (R.remaining reader.old) (R.remaining reader.new) t
-        × (string_bytes text ≡ line t)) }
-    ensures err { IfErr result (Refuses (R.remaining reader.old)) }
+        (λ text. (t : List ℕ) × GivesLog (R.remaining reader.old) (R.remaining reader.new) t
+        × (string_bytes text ≡ utf8_line t)) }
+    ensures err { IfErr result (RefusesLog (R.remaining reader.old)) }
 {
     match read_log::<S, R>(alloc, reader) {
         Ok(chain) => match line_of(alloc, &chain.sequence) {
@@ -130,7 +130,7 @@ fn text_of_log<S: Sequence, R: Read>(alloc: Global, reader: &mut R) -> Result<St
 /// All have the actor of the first; the first depends on nothing, and each other on just the change before it. An empty
 /// log has the empty text. The output is begun when the whole log was accepted.
 ///
-/// The refusal has the number of the change at which it stands, counted from 0. For each change these are judged in
+/// The refusal has the number of the change that it is at, counted from 0. For each change these are judged in
 /// turn: its length and bytes (`Change`, with `Short` for a length of 0 and a length or a change that isn't whole, and
 /// `Limit` for a length past 4,194,304), `NotChain`, `BadSeq`, `BadStart`, `BadReference`. `OutOfMemory` and `Io` (the
 /// reader or the writer failed) say nothing of the log, and have the number 0. After `Io` the writer may hold a
@@ -146,9 +146,9 @@ pub fn show<R: Read, W: Write>(
     ensures shown { OnOk result (Shows (R.remaining reader.old) (R.remaining reader.new)
         (W.contents writer.old) (W.contents writer.new)) }
     // What is refused isn't the log of any changes, and the refusal says why.
-    ensures refused { IfErr result (Refuses (R.remaining reader.old)) }
+    ensures refused { IfErr result (RefusesLog (R.remaining reader.old)) }
     ensures only { IfSome (R.remaining reader.old)
-        (λ bytes. (C : List ChangeParts) → IsLog bytes C → IfErr result (λ e. IsOutside e.fault)) }
+        (λ bytes. (C : List ChangeParts) → IsLog bytes C → IfErr result (λ e. IsOutsideFault e.fault)) }
     // A refusal writes nothing, but for a beginning of the text where the reader gave a whole log and the writer failed.
     ensures nothing { IfErr result (λ e. Keeps (W.contents writer.old) (W.contents writer.new)
         ⊎ ((e.fault ≡ Io) × ShowsPart (R.remaining reader.old) (R.remaining reader.new)

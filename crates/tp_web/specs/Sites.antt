@@ -59,7 +59,7 @@ is_own site fields =
     && fields_are_among (codes "Host") (site_hosts site) fields
     && fields_are_among (codes "Origin") (site_origins site) fields
 
--- whether windows are at the path; behind it may be the digits of an actor
+-- whether windows are at the path; after it may be the digits of an actor
 abbrev pub is_window_path : List ℕ → Bool
 is_window_path path = bytes_eq path (codes "/socket") || starts_with nat_eq path (codes "/socket/")
 
@@ -79,7 +79,7 @@ wanted_of site method path fields =
     then (if bytes_eq method (codes "GET") then found_at path (has_field (codes "Origin") fields) else Nothing)
     else Foreign
 
--- the bytes begin with the head of a request, which has at most so many fields
+-- the bytes begin with the head of a request, which has at most that many fields
 abbrev pub BeginsWithHead : ℕ → List ℕ → Type 0
 BeginsWithHead most bytes = (head : RequestHead) × (rest : List ℕ) × ReadsRequest bytes head rest × (length head.fields ≤ most)
 
@@ -93,7 +93,7 @@ IsWantedBy site bytes wanted =
     (wanted ≡ Foreign)
     ⊎ ((head : RequestHead) × (rest : List ℕ) × ReadsRequest bytes head rest × (wanted ≡ wanted_by_head site head))
 
--- the bytes begin with a head whose target is a window's, with the digits of the actor behind it
+-- the bytes begin with a head whose target is a window's, with the digits of the actor after it
 abbrev pub NamesActor : List ℕ → Actor → Type 0
 NamesActor bytes actor =
     (head : RequestHead) × (rest : List ℕ) × (digits : List ℕ) × ReadsRequest bytes head rest

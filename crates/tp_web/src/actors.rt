@@ -7,7 +7,7 @@ use tp_opid::Actor;
 use tp_peer::fresh_actor;
 use tp_window::Window;
 
-// A page gets the actor of so many connections before its own again.
+// A page gets the actor of a connection again that is at most this many before its own.
 const MOST_EARLIER: u64 = 4096;
 
 /// The actors of a page's windows, from one connection on: each connection has one, which is drawn from the key by its number.

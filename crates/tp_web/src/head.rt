@@ -14,13 +14,13 @@ use std::io::Read;
 use tp_opid::Actor;
 use websocket::handshake::server::{check_request, write_response};
 
-// A head has at most so many fields.
+// A head has at most this many fields.
 const MOST_FIELDS: usize = 64;
 
-// So many bytes are read at once.
+// This many bytes are read at once.
 const PIECE: usize = 4096;
 
-// A head has to come in so many reads.
+// A head has to come in at most this many reads.
 const MOST_READS: usize = 64;
 
 /// The answer that makes a WebSocket of the connection.
@@ -28,8 +28,8 @@ const MOST_READS: usize = 64;
 pub(crate) struct Accepted {
     /// What is sent.
     pub response: Vec<u8>,
-    /// What came behind the request.
-    pub behind: Vec<u8>,
+    /// What came after the request.
+    pub beyond: Vec<u8>,
 }
 
 // Whether the bytes begin with a whole head, or `None` where they never will.
@@ -45,8 +45,8 @@ fn is_whole(bytes: &[u8]) -> Option<bool>
     }
 }
 
-/// The bytes of a request up to the end of its head, with what came right behind it. `None` where the stream ends or fails
-/// before, where they are no head or come in too many pieces, and where memory runs out.
+/// The bytes of a request up to the end of its head, with what came right after it. `None` where the stream ends or
+/// fails before, where they are no head or come in too many pieces, and where memory runs out.
 pub(crate) fn read_head<S: Read>(alloc: Global, stream: &mut S) -> Option<Vec<u8>>
     ensures { IfSome result (λ bytes. BeginsWithHead MOST_FIELDS bytes.items) }
 {
@@ -74,7 +74,7 @@ pub(crate) fn wanted_by(site: &Site, bytes: &[u8]) -> Wanted
     let mut fields = [EMPTY_HEADER; MOST_FIELDS];
     let mut request = Request::new(&mut fields);
     match request.parse(bytes) {
-        Ok(Status::Complete(_)) => site.wanted(
+        Ok(Status::Complete(_)) => site.classify(
             request.method.unwrap_or(""),
             request.path.unwrap_or(""),
             request.headers,
@@ -107,6 +107,6 @@ pub(crate) fn accept(alloc: Global, bytes: &[u8]) -> Option<Accepted>
     let key = check_request(bytes, &request, &spans).ok()?;
     let mut response = Vec::new(alloc);
     write_response(&key, &[], &mut response).ok()?;
-    let behind = Vec::from_slice(alloc, &bytes[request.len..]).ok()?;
-    Some(Accepted { response, behind })
+    let beyond = Vec::from_slice(alloc, &bytes[request.len..]).ok()?;
+    Some(Accepted { response, beyond })
 }

@@ -2,7 +2,7 @@
 //!
 //! [`serve_windows`] takes connections on the seats of a served peer. A request for the page is answered with it; one for a
 //! window, where it comes from the page itself, becomes a WebSocket, on which each request is one turn of the seat. What the
-//! requests and answers are stands in tp_window.
+//! requests and answers are is in tp_window.
 #![tactic(auto)]
 
 mod actors;

@@ -116,17 +116,18 @@ fn work_on_all<
 /// Accepts as many connections as said, and answers the request of each: with a part of the page, or by a window, whose requests
 /// are answered until it ends.
 ///
-/// Each seat has a worker in a thread of its own, which takes the next connection once one has ended, so as many windows may be
-/// open at once as there are seats; others wait. A connection that says nothing, or takes nothing, for two minutes ends, and each
-/// ends alone. The edits of each window are those of an actor of its own, which is drawn from the key by the number of its
-/// connection, or of an earlier one of these that its page names: one that was cut off goes on under its actor, so that an edit
-/// of which it doesn't know whether it came may be sent again, and is made once.
+/// Each seat has a worker in a thread of its own, which takes the next connection once one has ended, so as many
+/// windows may be open at once as there are seats; others wait. A connection that says nothing, or takes nothing, for
+/// two minutes ends, and each ends alone. The edits of each window are those of an actor of its own, which is drawn
+/// from the key by the number of its connection, or of an earlier one of these that its page names. So a page that was
+/// cut off goes on under its actor: an edit of which it doesn't know whether it came may be sent again, and is made
+/// once.
 ///
 /// It answers once all connections have ended: `Io` where one can't be accepted, `OutOfMemory` where one can't be queued; those
 /// that were accepted before go on to their end first. The seats come back either way.
 ///
-/// Contracts see of each seat the turns that led it on, in each of which the peer stayed or made one edit. How many there were
-/// they don't say, nor anything of what goes over the sockets.
+/// Contracts see of each seat the turns that led it on; in each turn the peer stayed or made one edit. How many there
+/// were they don't say, nor anything of what goes over the sockets.
 pub fn serve_windows<
     R: Threads + Wait + Clock + Sync,
     S: Read + Write + OpenStream + Send + Drop,

@@ -66,7 +66,7 @@ fn is_there(fields: &[Header], name: &str) -> bool
     fields.iter().any(|field| has_name(field, name))
 }
 
-// Whether windows are at the path. A page that was cut off names its actor behind it.
+// Whether windows are at the path. A page that was cut off names its actor after it.
 fn is_window(path: &str) -> bool
     ensures { result ≡ is_window_path path.now }
 {
@@ -93,7 +93,7 @@ impl Site {
 
     /// What the request with this method, path and fields is for. Only one that names the site as its host is for the page or
     /// a window, and where it says from which page it comes, that is the site; a window's has to say so.
-    pub(crate) fn wanted(&self, method: &str, path: &str, fields: &[Header]) -> Wanted
+    pub(crate) fn classify(&self, method: &str, path: &str, fields: &[Header]) -> Wanted
         ensures { result ≡ wanted_of self.now method.now path.now (map header_parts fields.now) }
     {
         let is_own = is_there(fields, "Host")

@@ -19,10 +19,10 @@ use tp_served::{Seat, Served, Visitor};
 use tp_window::{Said, Window};
 use tungstenite::{Message, NoMask, Role, WebSocket, WebSocketConfig};
 
-// So many seconds a request may take to come, and an answer to be taken.
+// A request may take this many seconds to come, and an answer to be taken.
 const PATIENCE: u64 = 120;
 
-// A request of a window has at most so many bytes.
+// A request of a window has at most this many bytes.
 const MOST_REQUEST: usize = 1 << 20;
 
 // Now, in seconds after 1970 began; 0 where the clock doesn't say.
@@ -37,7 +37,7 @@ fn now<R: Clock>(rt: &R) -> u64 {
 }
 
 // Lets no read and no write wait longer than the patience, where the stream knows such a bound.
-fn bound<S: OpenStream>(stream: &S) {
+fn limit_waits<S: OpenStream>(stream: &S) {
     let patience = Some(Duration::from_secs(PATIENCE));
     let _ = stream.set_read_timeout(patience);
     let _ = stream.set_write_timeout(patience);
@@ -157,7 +157,7 @@ fn show<R: Wait + Clock, S: Read + Write + Drop, J: Journal>(
     }
 }
 
-// What a window's socket takes: texts of so many bytes.
+// What a window's socket takes: texts of `MOST_REQUEST` bytes at most.
 fn config() -> WebSocketConfig {
     WebSocketConfig::default()
         .max_message_size(Some(MOST_REQUEST))
@@ -190,7 +190,7 @@ fn begin<R: Wait + Clock, S: Read + Write + Drop, J: Journal>(
         alloc,
         stream,
         NoMask,
-        accepted.behind,
+        accepted.beyond,
         Role::Server,
         Some(config()),
     );
@@ -213,7 +213,7 @@ pub(crate) fn attend<R: Wait + Clock, S: Read + Write + OpenStream + Drop, J: Jo
     ensures { Attends seat.old seat.new }
 {
     let mut stream = stream;
-    bound(&stream);
+    limit_waits(&stream);
     let Some(request) = read_head(alloc, &mut stream) else {
         return;
     };

@@ -10,7 +10,7 @@ AllZip-pushed R [] (z ∷ ys) x y zip here = absurd zip
 AllZip-pushed R (z ∷ xs) [] x y zip here = absurd zip
 AllZip-pushed R (w ∷ xs) (z ∷ ys) x y zip here = (zip.0, AllZip-pushed R xs ys x y zip.1 here)
 
--- the same, of the first items of a list
+-- one more of the first items of a list, and of the other list
 pub AllZip-more : {A B : Type 0} (R : A → B → Type 0) (xs : List A) (i : ℕ) (ys new : List B) (x d : A) (y : B) → i < length xs → x ≡ get_or xs i d
     → AllZip R (take i xs) ys → R x y → new ≡ ys ++ y ∷ [] → AllZip R (take (i + 1) xs) new
 AllZip-more {A} {B} R xs i ys new x d y lt at zip here pushed =

@@ -4,19 +4,19 @@ use Rattle.std.specs.Str.{chars}
 use Rattle.std.specs.String.{string_bytes}
 use Rattle.std.specs.declared.alloc.Global.{Global}
 use Rattle.hex.specs.Hex.{encode_lower}
-use Rattle.tp_change.specs.declared.parts.ChangeParts.{ChangeParts}
+use Rattle.tp_layout.specs.declared.parts.ChangeParts.{ChangeParts}
 use Rattle.tp_document.specs.Editing.{asking}
-use Rattle.tp_document.specs.Effects.{IsEffect}
-use Rattle.tp_document.specs.declared.effects.Effect.{Effect}
+use Rattle.tp_snapshot.specs.Effects.{IsEffect}
+use Rattle.tp_snapshot.specs.declared.effects.Effect.{Effect}
 use Rattle.tp_edit.specs.declared.splice.Splice.{Splice}
-use Rattle.tp_graph.specs.Heads.{heads as heads_of}
+use Rattle.tp_history.specs.Heads.{heads as heads_of}
 use Rattle.tp_opid.specs.HexText.{IsHexOf}
 use Rattle.tp_opid.specs.declared.actor.Actor.{Actor}
 use Rattle.tp_opid.specs.declared.doc_id.DocId.{DocId}
 use Rattle.tp_opid.specs.declared.hash.Hash.{Hash}
 use Rattle.tp_peer.specs.EditingAt.{StepsAt}
-use Rattle.tp_peer.specs.PeerData.{PeerData}
-use Rattle.tp_text.specs.Text.{IsTextOf}
+use Rattle.tp_peer.specs.PeerState.{PeerState}
+use Rattle.tp_edit.specs.Text.{IsTextOf}
 use Rattle.tp_window.specs.Answers.{AreShownChanges, ShowDifferences, WriteHashes, WritesActor, WritesHash}
 use Rattle.tp_window.specs.Requests.{AreTypedSplices, DoesRequest, SpellHashes}
 use Rattle.tp_window.specs.Windows.{IsNews, MadeOn, Page, ShowsText, with_edit, with_news}
@@ -56,7 +56,7 @@ pub record IsEffectOf (hash : List ℕ) (C : List ChangeParts) (effect : Effect)
 
 -- The typed splices were the actor's edit of the text at the heads that the texts spell, at that time: a page that showed this text
 -- shows, with them, the text at the change, and with what is new since then the text now.
-pub record IsTypedEdit (actor : Actor) (heads : List (String Global)) (typed : List TypedSplice) (time : ℕ) (p p' : PeerData) (edited : Edited) : Type 0 where
+pub record IsTypedEdit (actor : Actor) (heads : List (String Global)) (typed : List TypedSplice) (time : ℕ) (p p' : PeerState) (edited : Edited) : Type 0 where
   pub hashes : List Hash
   pub splices : List Splice
   pub each : SpellHashes heads hashes
@@ -66,7 +66,7 @@ pub record IsTypedEdit (actor : Actor) (heads : List (String Global)) (typed : L
       → ShowsText p'.applied (with_edit page splices edited.made) × ShowsText p'.applied (with_news (with_edit page splices edited.made) edited.news)
 
 -- What the actor's request comes to at that time, which a peer p did and is p' then.
-abbrev pub ComesTo : Actor → Request → ℕ → PeerData → PeerData → Outcome → Type 0
+abbrev pub ComesTo : Actor → Request → ℕ → PeerState → PeerState → Outcome → Type 0
 ComesTo actor request.Open time p p' (outcome.Text text) = IsTextOf p'.applied (chars (string_bytes text))
 ComesTo actor (request.Resume who heads) time p p' (outcome.Made made) = IsMadeBy (string_bytes who) heads.items p'.applied made
 ComesTo actor (request.Edit heads typed) time p p' (outcome.Edit edited) = IsTypedEdit actor heads.items typed.items time p p' edited
@@ -102,7 +102,7 @@ ShowsOutcome actor id C _ _ = ⊥
 -- ---- both
 
 -- At the time, some request of the actor's came to an outcome, and an answer shows this of the document then.
-pub record AnswersRequest (actor : Actor) (time : ℕ) (p p' : PeerData) : Type 0 where
+pub record AnswersRequest (actor : Actor) (time : ℕ) (p p' : PeerState) : Type 0 where
   pub request : Request
   pub outcome : Outcome
   pub answer : Answer

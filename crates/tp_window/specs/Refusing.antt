@@ -2,15 +2,15 @@
 use Rattle.std.specs.Prelude.{◌≡◌, ◌⊎◌, ℕ, Any, List, String, false, length}
 use Rattle.std.specs.String.{string_bytes}
 use Rattle.std.specs.declared.alloc.Global.{Global}
-use Rattle.tp_change.specs.declared.parts.ChangeParts.{ChangeParts}
-use Rattle.tp_graph.specs.Named.{has, has_all}
+use Rattle.tp_layout.specs.declared.parts.ChangeParts.{ChangeParts}
+use Rattle.tp_history.specs.Named.{has, has_all}
 use Rattle.tp_opid.specs.HexText.{IsHexOf}
 use Rattle.tp_opid.specs.declared.actor.Actor.{Actor}
 use Rattle.tp_opid.specs.declared.hash.Hash.{Hash}
 use Rattle.tp_document.specs.declared.error.DocError.TheVariants as doc
 use Rattle.tp_peer.specs.declared.editing_at.EditAtError.TheVariants as at
 use Rattle.tp_peer.specs.declared.error.PeerError.TheVariants as peer
-use Rattle.tp_peer.specs.PeerData.{PeerData}
+use Rattle.tp_peer.specs.PeerState.{PeerState}
 use Rattle.tp_window.specs.Requests.{RefusesEditAs, SpellHashes, SpellsNoHash}
 use Rattle.tp_window.specs.declared.error.WindowError.{WindowError}
 use Rattle.tp_window.specs.declared.error.WindowError.TheVariants.{BadRequest, Edit, OutOfMemory}
@@ -21,20 +21,22 @@ use Rattle.tp_window.specs.declared.request.Request.TheVariants as request
 abbrev pub SpellsNoActor : List ℕ → Type 0
 SpellsNoActor text = (actor : Actor) → length actor.0 ≡ 16 → IsHexOf text actor.0 → ⊥
 
--- Why it isn't told what an actor made: some text spells none, or there is no memory.
+-- Why what an actor made isn't answered: some text spells none, or there is no memory.
 abbrev pub RefusesMadeBy : List ℕ → List (String Global) → WindowError → Type 0
 RefusesMadeBy actor heads BadRequest = Any SpellsNoHash heads ⊎ SpellsNoActor actor
 RefusesMadeBy actor heads OutOfMemory = Unit {0}
 RefusesMadeBy actor heads (Edit e) = ⊥
 
--- Why it isn't told what is new: some text spells no hash, a hash that they spell is no change's, or there is no memory.
+-- Why what is new isn't answered: some text spells no hash, a hash that they spell is no change's, or there is no
+-- memory.
 abbrev pub RefusesNewsSince : List (String Global) → List ChangeParts → WindowError → Type 0
 RefusesNewsSince heads C BadRequest = Any SpellsNoHash heads
 RefusesNewsSince heads C OutOfMemory = Unit {0}
 RefusesNewsSince heads C (Edit e) =
     (e ≡ at.Peer peer.OutOfMemory) ⊎ ((e ≡ at.Peer (peer.Doc doc.UnknownHead)) × ((H : List Hash) × SpellHashes heads H × (has_all C H ≡ false)))
 
--- Why it isn't told what a change did: the text spells no hash, the hash that it spells is no change's, or there is no memory.
+-- Why what a change did isn't answered: the text spells no hash, the hash that it spells is no change's, or there is no
+-- memory.
 abbrev pub RefusesEffectOf : List ℕ → List ChangeParts → WindowError → Type 0
 RefusesEffectOf hash C BadRequest = (h : Hash) → length h.0 ≡ 32 → IsHexOf hash h.0 → ⊥
 RefusesEffectOf hash C OutOfMemory = ⊥
@@ -42,7 +44,7 @@ RefusesEffectOf hash C (Edit e) =
     (e ≡ at.Peer peer.OutOfMemory) ⊎ ((e ≡ at.Peer (peer.Doc doc.UnknownHead)) × ((h : Hash) × IsHexOf hash h.0 × (has C h ≡ false)))
 
 -- Why the actor's request of a peer p is refused, and what that leaves.
-abbrev pub RefusesRequest : Actor → Request → ℕ → PeerData → WindowError → PeerData → Type 0
+abbrev pub RefusesRequest : Actor → Request → ℕ → PeerState → WindowError → PeerState → Type 0
 RefusesRequest actor request.Open time p e p' = (p' ≡ p) × (e ≡ Edit (at.Peer peer.OutOfMemory))
 RefusesRequest actor (request.Resume who heads) time p e p' = (p' ≡ p) × RefusesMadeBy (string_bytes who) heads.items e
 RefusesRequest actor (request.Edit heads typed) time p e p' = RefusesEditAs actor heads.items typed.items time p e p'

@@ -1,24 +1,24 @@
--- What a page shows, and what it is told.
-use Rattle.std.specs.Prelude.{◌≡◌, ◌⊎◌, ℕ, List, [], ◌∷◌, true, Option, Some, None, Result, Ok, Err}
+-- What a page shows, and what it is answered.
+use Rattle.std.specs.Prelude.{◌≡◌, ◌⊎◌, ℕ, List, [], ◌∷◌, Option, Some, None, Result, Ok, Err, IsTrue}
 use Rattle.std.specs.Str.{chars}
 use Rattle.tp_change.specs.ChangeHash.{hash_of}
-use Rattle.tp_change.specs.declared.parts.ChangeParts.{ChangeParts}
-use Rattle.tp_document.specs.Differences.{AreDifferences, LeadsTo, after_differences}
+use Rattle.tp_layout.specs.declared.parts.ChangeParts.{ChangeParts}
+use Rattle.tp_snapshot.specs.Differences.{AreDifferences, LeadsTo, after_differences}
 use Rattle.tp_document.specs.Editing.{asking}
 use Rattle.tp_edit.specs.Splices.{all_spliced}
 use Rattle.tp_edit.specs.declared.splice.Splice.{Splice}
-use Rattle.tp_graph.specs.Heads.{heads as heads_of}
-use Rattle.tp_graph.specs.Named.{has_all}
-use Rattle.tp_graph.specs.Past.{past}
+use Rattle.tp_history.specs.Heads.{heads as heads_of}
+use Rattle.tp_history.specs.Named.{has_all}
+use Rattle.tp_history.specs.Past.{past}
 use Rattle.tp_list.specs.Members.{In}
 use Rattle.tp_opid.specs.declared.actor.Actor.{Actor}
 use Rattle.tp_opid.specs.declared.hash.Hash.{Hash}
 use Rattle.tp_peer.specs.EditingAt.{StepsAt}
-use Rattle.tp_peer.specs.PeerData.{PeerData}
+use Rattle.tp_peer.specs.PeerState.{PeerState}
 use Rattle.tp_peer.specs.declared.editing_at.EditAtError.{EditAtError}
 use Rattle.tp_peer.specs.declared.editing_at.EditAtError.TheVariants as at
 use Rattle.tp_peer.specs.declared.error.PeerError.TheVariants as peer
-use Rattle.tp_text.specs.Text.{IsTextOf}
+use Rattle.tp_edit.specs.Text.{IsTextOf}
 use Rattle.tp_window.specs.declared.news.News.{News}
 use Rattle.tp_window.specs.declared.window.Edited.{Edited}
 
@@ -29,7 +29,7 @@ pub record Page : Type 0 where
 
 -- The page is right of a document with the changes C: it has the heads, and the text is that at them.
 pub record ShowsText (C : List ChangeParts) (page : Page) : Type 0 where
-  pub known : has_all C page.heads ≡ true
+  pub known : IsTrue (has_all C page.heads)
   pub text : IsTextOf (past C page.heads) page.text
 
 -- What is new in a document with the changes C since the text at the heads H: the heads now, and the differences to the text now.
@@ -58,7 +58,7 @@ IsToldAs answer (Ok edited) = answer ≡ Ok edited.made
 IsToldAs answer (Err e) = (answer ≡ Err e) ⊎ (e ≡ at.Peer peer.OutOfMemory)
 
 -- The peer stayed, or made an edit of the actor's on some heads.
-abbrev pub MayEdit : Actor → PeerData → PeerData → Type 0
+abbrev pub MayEdit : Actor → PeerState → PeerState → Type 0
 MayEdit actor p p' = (p' ≡ p) ⊎ ((H : List Hash) × (splices : List Splice) × (time : ℕ)
     × (answer : Result (Option Hash) EditAtError) × StepsAt p H (asking actor splices time (chars [])) answer p')
 

@@ -8,7 +8,7 @@ use tp_document::Difference;
 /// One replacement of a text, as the page reads it. Positions and lengths count characters (Unicode scalar values).
 #[derive(Debug, Drop, Serialize)]
 pub struct ShownSplice<'a> {
-    /// How many characters stand before it, in the text that the ones before it leave.
+    /// How many characters are before it, in the text that the ones before it leave.
     pub at: usize,
     /// How many characters go.
     pub del: usize,

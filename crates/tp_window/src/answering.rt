@@ -12,7 +12,7 @@ use crate::outcome::{Outcome, effect_in, made_by, news_since};
 use crate::reading::{hashes_of, request_of, splices_of};
 use crate::request::{Request, TypedSplice};
 use crate::window::{Edited, Window};
-use crate::writing::{shown_changes, shown_of, text_if_any, texts_of, written};
+use crate::writing::{json_of, shown_changes, shown_of, text_if_any, texts_of};
 use std::alloc::{AllocError, Global};
 use tp_document::Document;
 use tp_journal::Journal;
@@ -157,7 +157,7 @@ impl Window {
     {
         let request = request_of(alloc, request)?;
         let outcome = self.does(alloc, peer, time, &request)?;
-        written(alloc, &self.answer_of(alloc, peer.document(), &outcome)?)
+        json_of(alloc, &self.answer_of(alloc, peer.document(), &outcome)?)
     }
 
     /// Answers a request of the page, which is a JSON text; its edits are made at the time, in seconds after 1970 began. A
@@ -181,7 +181,7 @@ impl Window {
             }),
             Err(error) => {
                 let reason = format!(in alloc; "{error}")?;
-                match written(alloc, &Answer::Refused { reason }) {
+                match json_of(alloc, &Answer::Refused { reason }) {
                     Ok(text) => Ok(Said {
                         text,
                         is_last: true,

@@ -1,8 +1,8 @@
 //! Laws of pages: public functions whose contract is the law and whose body is empty.
 
 ghost use Rattle.std.specs.Prelude.{◌++◌, List};
-ghost use Rattle.tp_change.specs.declared.parts.ChangeParts.{ChangeParts};
-ghost use Rattle.tp_graph.specs.Sound.{Sound};
+ghost use Rattle.tp_layout.specs.declared.parts.ChangeParts.{ChangeParts};
+ghost use Rattle.tp_history.specs.Sound.{Sound};
 ghost use Rattle.tp_window.specs.Windows.{IsNews, Page, ShowsText, with_news};
 ghost use Rattle.tp_window.specs.declared.news.News.{News as NewsOf};
 

@@ -1,10 +1,10 @@
 //! A window on a document: what a page that shows its text may ask, and what it is answered.
 //!
-//! A page has a text and the heads at which this is the text. It edits that text, and is told the differences to the text
-//! now; it never merges. What each edit becomes, and why the page then shows the text at the heads that it names, is stated
-//! in specs/Windows and proved of [`Window::edit`] and [`News::since`]; that the value of a request is done, and what that
-//! comes to shown by the value of an answer, in specs/Requests, Refusing and Outcomes, and proved of what [`Window::answer`]
-//! calls. How requests and answers are written, as JSON, stands in docs/FORMATS.md.
+//! A page has a text and the heads at which this is the text. It edits that text, and is sent the differences to the
+//! text now; it never merges. What each edit becomes, and why the page then shows the text at the heads that it names,
+//! is stated in specs/Windows and proved of [`Window::edit`] and [`News::since`]. What the value of a request asks is
+//! done, and the value of an answer shows what that came to: this is stated in specs/Requests, Refusing and Outcomes,
+//! and proved of what [`Window::answer`] calls. How requests and answers are written, as JSON, is in docs/FORMATS.md.
 #![tactic(auto)]
 
 mod answer;

@@ -2,7 +2,7 @@
 
 ghost use Rattle.std.specs.Prelude.{◌≡◌, ◌↔◌, ◌⊎◌, false, Err, IfOk, IfErr};
 ghost use Rattle.tp_document.specs.declared.error.DocError.TheVariants as doc;
-ghost use Rattle.tp_graph.specs.Named.{has_all};
+ghost use Rattle.tp_history.specs.Named.{has_all};
 ghost use Rattle.tp_window.specs.Windows.{IsNews, edited_heads};
 
 use std::alloc::Global;

@@ -9,7 +9,7 @@ use tp_edit::Splice;
 #[derive(Debug, Drop, Deserialize)]
 #[serde(deny_unknown_fields)]
 pub struct TypedSplice {
-    /// How many characters stand before it.
+    /// How many characters are before it.
     pub at: usize,
     /// How many characters it deletes.
     pub del: usize,
@@ -18,7 +18,7 @@ pub struct TypedSplice {
 }
 
 impl TypedSplice {
-    /// The same with a borrowed text, as an edit takes it. No memory.
+    /// The splice with a borrowed text, as an edit takes it. No memory.
     pub fn splice(&self) -> Splice<'_>
         ensures { IsTypedSplice self.now result }
     {

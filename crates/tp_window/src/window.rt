@@ -4,7 +4,7 @@ ghost use Rattle.std.specs.Prelude.{◌≡◌, ◌⊎◌, [], IfOk, IfSome, Resu
 ghost use Rattle.std.specs.Str.{chars};
 ghost use Rattle.tp_opid.specs.declared.hash.Hash.{Hash as HashOf};
 ghost use Rattle.tp_document.specs.Editing.{asking};
-ghost use Rattle.tp_peer.specs.Appending.{IsKept};
+ghost use Rattle.tp_peer.specs.Appending.{IsDurable};
 ghost use Rattle.tp_peer.specs.EditingAt.{StepsAt};
 ghost use Rattle.tp_peer.specs.Taking.{journal_of};
 ghost use Rattle.tp_peer.specs.declared.editing_at.EditAtError.{EditAtError as Refusal};
@@ -63,7 +63,7 @@ impl Window {
             × StepsAt peer.old heads.now (asking self.now.actor splices.now time (chars [])) answer peer.new
             × IsToldAs answer result }
         ensures settled { IfOk result (λ e. IfSome e.made
-            (λ _. IsKept J.content J.device J.is_settled (journal_of peer.new))) }
+            (λ _. IsDurable J.content J.device J.is_settled (journal_of peer.new))) }
         ensures page { (page : Page) → ShowsText peer.old.applied page → page.heads ≡ heads.now
             → IfOk result (λ e. ShowsText peer.new.applied (with_edit page splices.now e.made)
             × ShowsText peer.new.applied (with_news (with_edit page splices.now e.made) e.news)) }

@@ -12,7 +12,7 @@ use tp_change::Change;
 use tp_document::Difference;
 use tp_opid::Hash;
 
-// So many changes a page is told of at once.
+// At most this many changes are in one answer to a page.
 const MOST_CHANGES: usize = 1000;
 
 /// The hexadecimal digits of the hashes, in lower case and in the order of the hashes. The only refusal is `OutOfMemory`.
@@ -67,7 +67,7 @@ fn shown_change(alloc: Global, change: &Change) -> Result<ShownChange<'_>, Windo
     })
 }
 
-// At most so many of the changes, and never more than `MOST_CHANGES`, from the one with the number on.
+// At most `most` of the changes, and never more than `MOST_CHANGES`, from the one with the number on.
 fn part_of(changes: &[Change], from: usize, most: usize) -> &[Change]
     ensures { result.now ≡ take (min most MOST_CHANGES) (drop from changes.now) }
 {
@@ -75,8 +75,8 @@ fn part_of(changes: &[Change], from: usize, most: usize) -> &[Change]
     &rest[..most.min(MOST_CHANGES).min(rest.len())]
 }
 
-/// At most so many of the changes, and never more than `MOST_CHANGES`, from the one with the number on. The only refusal is
-/// `OutOfMemory`.
+/// At most `most` of the changes, and never more than `MOST_CHANGES`, from the one with the number on. The only refusal
+/// is `OutOfMemory`.
 pub(crate) fn shown_changes(
     alloc: Global,
     changes: &[Change],
@@ -96,7 +96,7 @@ pub(crate) fn shown_changes(
 }
 
 /// The answer as a JSON text.
-pub(crate) fn written(alloc: Global, answer: &Answer) -> Result<String, WindowError> {
+pub(crate) fn json_of(alloc: Global, answer: &Answer) -> Result<String, WindowError> {
     match serde_json::to_string(alloc, answer) {
         Ok(text) => Ok(text),
         Err(_) => Err(WindowError::OutOfMemory),

@@ -1,14 +1,16 @@
 -- Whether a change that came is one of those that were made.
-use Rattle.tp_world.proofs.Common.{◌≡◌, ℕ, List, [], ◌+◌, ◌<◌, ◌≤◌, length, take, drop, get_or, true, false, Bool, Result, Ok, Err, inl, inr, refl, sym, ap, ◌∙◌, subst, IfOk, MatchBool, drop_all, take_all, take_more, In, AllIn, never, Hash, ChangeParts, hash_of, spelling, HashesApart, has, In-has, changes_in, changes_of, WorldError}
+use Rattle.tp_world.proofs.Common.{◌≡◌, ℕ, List, [], ◌+◌, ◌<◌, ◌≤◌, length, take, drop, get_or, true, false, Bool, Result, Ok, Err, inl, inr, refl, sym, ap, ◌∙◌, subst, IfOk, MatchBool, drop_all, take_all, take_more, In, AllIn, never, ChangeParts, hash_of, HashesApart, has, In-has, changes_in, decoded_changes, WorldError}
+use Rattle.tp_opid.specs.declared.hash.Hash.{Hash}
+use Rattle.tp_layout.specs.Spelling.{spelling}
 use Rattle.std.specs.Bool.{Decides}
 use Rattle.tp_list.proofs.Members.{In-get_or, In-push}
-use Rattle.tp_change.specs.Limits.{IsChange}
-use Rattle.tp_change.proofs.SpellingLaws.{one_spelling_is}
-use Rattle.tp_sync.specs.declared.error.SyncError.{SyncError}
-use Rattle.tp_sync.specs.declared.error.SyncError.TheVariants.{BadMessage, BadChange, TooManyHeads, PendingFull, OutOfMemory, OtherDocument, NotKept}
-use Rattle.tp_sync.specs.Gives.{FailsWith}
-use Rattle.tp_sync.specs.Message.{MessageParts}
-use Rattle.tp_sync.specs.Reading.{message_at}
+use Rattle.tp_layout.specs.Limits.{IsChange}
+use Rattle.tp_layout.proofs.SpellingLaws.{one_spelling_is}
+use Rattle.tp_message.specs.declared.error.SyncError.{SyncError}
+use Rattle.tp_message.specs.declared.error.SyncError.TheVariants.{BadMessage, BadChange, TooManyHeads, PendingFull, OutOfMemory, OtherDocument, NotKept}
+use Rattle.tp_codec.specs.Gives.{FailsWith}
+use Rattle.tp_message.specs.Message.{MessageParts}
+use Rattle.tp_message.specs.Reading.{message_at}
 
 item-In : (xs : List ChangeParts) (i : ℕ) (x : ChangeParts) → i < length xs → x ≡ get_or xs i x → In x xs
 item-In xs i x less at = subst (λ y. In y xs) (sym at) (In-get_or xs i x less)
@@ -53,14 +55,8 @@ all_of made changes i past all = subst (λ l. AllIn l made) (take_all i changes 
 
 -- those of the message that they are
 pub carries_changes : (bytes : List ℕ) (m : MessageParts) → message_at bytes ≡ Ok m → changes_in bytes ≡ m.changes
-carries_changes bytes m is = ap changes_of is
+carries_changes bytes m is = ap decoded_changes is
 
 -- none, where they are no message
-pub carries_none : (bytes : List ℕ) (e : SyncError) → (e ≡ OutOfMemory → ⊥) → FailsWith e (message_at bytes) → changes_in bytes ≡ []
-carries_none bytes BadMessage other is = ap changes_of is
-carries_none bytes BadChange other is = ap changes_of is
-carries_none bytes TooManyHeads other is = ap changes_of is
-carries_none bytes PendingFull other is = ap changes_of is
-carries_none bytes OutOfMemory other is = absurd (other refl)
-carries_none bytes OtherDocument other is = ap changes_of is
-carries_none bytes NotKept other is = ap changes_of is
+pub carries_none : (bytes : List ℕ) (e : SyncError) → (e ≡ OutOfMemory → ⊥) → FailsWith OutOfMemory e (message_at bytes) → changes_in bytes ≡ []
+carries_none bytes e other is = ap decoded_changes (is other)

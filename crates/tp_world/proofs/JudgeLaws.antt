@@ -1,7 +1,9 @@
 -- From the tests of an event to whether it may happen, and else why not.
-use Rattle.tp_world.proofs.Common.{◌≡◌, inl, inr, ℕ, ◌+◌, ◌==◌, ◌<◌, List, [], ◌∷◌, length, true, false, Bool, ◌||◌, not, nat_lt, if◌then◌else◌, zero, suc, IsSome, Option, Some, None, refl, sym, ap, ◌∙◌, subst, arith, nat_tests, MatchBool, option_to_list, slice_get, In, both, both_left, both_right, never, or_left, or_right, truth, Actor, same_actor-itself, same_actor-same, ChangeParts, hash_of, has, has-In, In-has, PeerData, WorldError, NoPeer, ActorUsed, ForeignChange, HashClash, Stopped, NoEntry, OutOfMemory, code_of, Carried, Event, entries_of, peers_of, running_of, IsRefusal, MayHappen, Passes, WouldMake, keeps_whole, World, edit_is_new, AllThere, IsFresh, PassesBefore, clashes_in, is_named, IsWould}
+use Rattle.tp_world.proofs.Common.{◌≡◌, inl, inr, ℕ, ◌+◌, ◌==◌, ◌<◌, List, [], ◌∷◌, length, true, false, Bool, ◌||◌, not, nat_lt, if◌then◌else◌, zero, suc, IsSome, Option, Some, None, refl, sym, ap, ◌∙◌, subst, arith, nat_tests, MatchBool, option_to_list, slice_get, In, both, both_left, both_right, never, or_left, or_right, truth, Actor, same_actor-itself, same_actor-same, ChangeParts, hash_of, has, has-In, In-has, WorldError, NoPeer, ActorUsed, ForeignChange, HashClash, Stopped, NoEntry, OutOfMemory, code_of, WorldInvariant, Event, RefusesHappening, MayHappen, Passes, WouldMake, keeps_whole, World, AllThere, IsFresh, PassesBefore, clashes_in, is_named, IsWould}
+use Rattle.tp_headline.proofs.MakingLaws.{edit_is_new}
 use Rattle.tp_opid.specs.Same.{same_actor}
-use Rattle.tp_world.proofs.Happenings.{one_would}
+use Rattle.tp_event.proofs.Happenings.{one_would}
+use Rattle.tp_event.proofs.ThereLaws.{below_some}
 
 true-lt : (a b : ℕ) → nat_lt a b ≡ true → a < b
 true-lt a b h = grind (arith, nat_tests)
@@ -9,7 +11,7 @@ true-lt a b h = grind (arith, nat_tests)
 lt-true : (a b : ℕ) → a < b → nat_lt a b ≡ true
 lt-true a b h = grind (arith, nat_tests)
 
-pub no_clash : (w : World) (e : Event) (made : Option ChangeParts) → Carried w → IsWould w e made → clashes_in w.made e made ≡ false → Passes w e HashClash
+pub no_clash : (w : World) (e : Event) (made : Option ChangeParts) → WorldInvariant w → IsWould w e made → clashes_in w.made e made ≡ false → Passes w e HashClash
 no_clash w e (Some c) h would none = λ d other makes i same.
     let is : d ≡ c = one_would w e d c h makes.0 would in
     let there : has w.made (hash_of c) ≡ true = In-has w.made other (hash_of c) i (same ∙ ap hash_of is) in
@@ -17,7 +19,7 @@ no_clash w e (Some c) h would none = λ d other makes i same.
     never (both (has w.made (hash_of c)) (keeps_whole e c) there whole) none
 no_clash w e None h would none = λ d other makes i same. absurd (would d makes.0)
 
-pub a_clash : (w : World) (e : Event) (made : Option ChangeParts) → Carried w → IsWould w e made → clashes_in w.made e made ≡ true → Passes w e HashClash → ⊥
+pub a_clash : (w : World) (e : Event) (made : Option ChangeParts) → WorldInvariant w → IsWould w e made → clashes_in w.made e made ≡ true → Passes w e HashClash → ⊥
 a_clash w e (Some c) h would found passes =
     let there = has-In w.made (hash_of c) (both_left (has w.made (hash_of c)) (keeps_whole e c) found) in
     let makes : WouldMake w e c = (would, both_right (has w.made (hash_of c)) (keeps_whole e c) found) in
@@ -73,7 +75,7 @@ passes_all w e before NoEntry = before NoEntry (omega arith)
 passes_all w e before OutOfMemory = tt
 
 -- the first test that isn't passed
-pub fails_first : (w : World) (e : Event) (why : WorldError) → PassesBefore w e why → (Passes w e why → ⊥) → IsRefusal w e why
+pub fails_first : (w : World) (e : Event) (why : WorldError) → PassesBefore w e why → (Passes w e why → ⊥) → RefusesHappening w e why
 fails_first w e NoPeer before fails = record { before = before; fails = fails }
 fails_first w e ActorUsed before fails = record { before = before; fails = fails }
 fails_first w e ForeignChange before fails = record { before = before; fails = fails }
@@ -88,11 +90,6 @@ some_below : {X : Type 0} (xs : List X) (n : ℕ) → n < length xs → IsSome (
 some_below [] n h = absurd (omega arith)
 some_below (x ∷ xs) zero h = refl
 some_below (x ∷ xs) (suc n) h = some_below xs n (omega arith)
-
-below_some : {X : Type 0} (xs : List X) (n : ℕ) → IsSome (slice_get xs n) → n < length xs
-below_some [] n h = absurd cc
-below_some (x ∷ xs) zero h = omega arith
-below_some (x ∷ xs) (suc n) h = let below = below_some xs n h in omega arith
 
 there_if : {X : Type 0} (xs : List X) (n : ℕ) (b : Bool) → b ≡ nat_lt n (length xs) → MatchBool b (AllThere xs (n ∷ [])) (AllThere xs (n ∷ []) → ⊥)
 there_if xs n true e = λ m i. elim i [
@@ -123,20 +120,3 @@ fresh_if used a false e = λ x is i. never (In-named used a (let same : x ≡ a 
 
 pub fresh_one : (used : List Actor) (a : Actor) (o : Option Actor) (b : Bool) → o ≡ Some a → b ≡ is_named used a → MatchBool (not b) (IsFresh used o) (IsFresh used o → ⊥)
 fresh_one used a o b some is = subst (λ x. MatchBool (not b) (IsFresh used x) (IsFresh used x → ⊥)) (sym some) (fresh_if used a b is)
-
--- ---- what may happen names peers that are there
-
-some_of : (peers : List PeerData) (n : ℕ) → IsSome (slice_get peers n) → (p : PeerData) × (slice_get peers n ≡ Some p)
-some_of [] n h = absurd cc
-some_of (p ∷ peers) zero h = (p, refl)
-some_of (p ∷ peers) (suc n) h = some_of peers n h
-
-pub there_below : (w : World) (e : Event) (n : ℕ) → MayHappen w e → In n (peers_of e) → n < length w.peers
-there_below w e n may i = below_some w.peers n (may NoPeer n i)
-
--- and an entry that is there
-pub sent_below : (w : World) (e : Event) (n : ℕ) → MayHappen w e → In n (entries_of e) → n < length w.wire
-sent_below w e n may i = below_some w.wire n (may NoEntry n i)
-
-pub runs_there : (w : World) (e : Event) (n : ℕ) → MayHappen w e → In n (peers_of e) → In n (running_of e) → (p : PeerData) × (slice_get w.peers n ≡ Some p) × (p.stopped ≡ false)
-runs_there w e n may i j = let p = some_of w.peers n (may NoPeer n i) in (p.0, p.1, may Stopped n p.0 j p.1)

@@ -1,9 +1,5 @@
 pub mod Common
-pub mod RefusedEdits
-pub mod MemberLaws
-pub mod Happenings
 pub mod JudgeLaws
-pub mod MadeLaws
 pub mod Runs
 pub mod OrderLaws
 pub mod ForeignLaws

@@ -1,15 +1,15 @@
 -- The changes that were made, entered one after another.
-use Rattle.tp_world.proofs.Common.{◌≡◌, ℕ, zero, suc, ◌+◌, ◌<◌, List, [], ◌∷◌, ◌++◌, length, take, drop, get_or, Some, None, sym, ap, ◌∙◌, subst, add-one, take-append-drop, slice_get, option_map, pairs_of, take_all, take_more, Insert, ChangeParts, inserts, IsInOrder, Sound, Fits-at, Sound-prefix}
+use Rattle.tp_world.proofs.Common.{◌≡◌, ℕ, zero, suc, ◌+◌, ◌<◌, List, [], ◌∷◌, ◌++◌, length, take, drop, get_or, Some, None, sym, ap, ◌∙◌, subst, add-one, take-append-drop, slice_get, option_map, pairs_of, take_all, take_more, Insert, ChangeParts, inserts, IsInOrder, Fits-at, Sound-prefix, seen_end}
+use Rattle.tp_history.specs.Sound.{Sound}
 use Rattle.std.proofs.Math.Seq.{drop-cons}
-use Rattle.tp_graph.proofs.TreeLaws.{inserts_tree}
+use Rattle.tp_history.proofs.TreeLaws.{inserts_tree}
 use Rattle.tp_opid.specs.declared.op_id.OpId.{OpId}
 use Rattle.tp_rga.specs.declared.walk.Seen.{Seen}
 use Rattle.tp_rga.specs.Shown.{seen_of}
-use Rattle.tp_rga.proofs.Walking.{seen_end}
 use Rattle.tp_change.specs.Operations.{ops_of}
 use Rattle.tp_change.proofs.ElementLaws.{inserts-push}
-use Rattle.tp_text.specs.Applying.{CanApply, Extends}
-use Rattle.tp_text.proofs.Applied.{CanApply-same}
+use Rattle.tp_edit.specs.Applying.{CanApply, Extends}
+use Rattle.tp_edit.proofs.Applied.{CanApply-same}
 use Rattle.tp_document.proofs.SoundText.{CanApply-fits}
 
 split_at : (C : List ChangeParts) (i : ℕ) (x : ChangeParts) → i < length C → x ≡ get_or C i x → C ≡ take i C ++ x ∷ drop (i + 1) C

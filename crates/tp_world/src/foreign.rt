@@ -2,9 +2,9 @@
 
 ghost use Rattle.std.specs.Prelude.{◌≡◌, IfOk, IsOkUnless, MatchBool};
 ghost use Rattle.tp_list.specs.Members.{In, AllIn};
-ghost use Rattle.tp_change.specs.Limits.{IsChange};
-ghost use Rattle.tp_change.specs.Spelling.{spelling};
-ghost use Rattle.tp_graph.specs.Named.{HashesApart};
+ghost use Rattle.tp_layout.specs.Limits.{IsChange};
+ghost use Rattle.tp_layout.specs.Spelling.{spelling};
+ghost use Rattle.tp_history.specs.Named.{HashesApart};
 ghost use Rattle.tp_headline.specs.declared.error.WorldError.TheVariants.{OutOfMemory};
 ghost use Rattle.tp_peer.specs.Laws.{changes_in};
 
@@ -69,8 +69,8 @@ fn are_made(made: &[Change], changes: &[Change]) -> Result<bool, WorldError>
     Ok(true)
 }
 
-/// Whether each change that the bytes carry is one of those that were made, of which no two have one hash. Bytes that
-/// are no message carry none. The only refusal is `OutOfMemory`.
+/// Whether each change that the bytes carry is one of those that were made, where no two of these have one hash. Bytes
+/// that are no message carry none. The only refusal is `OutOfMemory`.
 ///
 /// The bytes are decoded. Each change that they carry takes one pass over the hashes of those that were made; where one
 /// has its hash, both are written out and compared.

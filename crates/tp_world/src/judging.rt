@@ -2,25 +2,22 @@
 
 ghost use Rattle.std.specs.Prelude.{◌≡◌, false, true, MatchBool, IfOk, IsOkUnless, ◌&&◌};
 ghost use Rattle.std.specs.Option.{option_map, option_to_list};
-ghost use Rattle.tp_graph.specs.Named.{has};
 ghost use Rattle.tp_headline.specs.declared.error.WorldError.TheVariants.{OutOfMemory};
 ghost use Rattle.tp_headline.specs.Event as events;
 ghost use Rattle.tp_headline.specs.Refusing.{keeps_whole};
-ghost use Rattle.tp_peer.specs.Calls.{call_of as peer_call_of};
+ghost use Rattle.tp_call.specs.Calls.{call_of as peer_call_of};
 ghost use Rattle.tp_world.specs.Judging.{AllRun, AllThere, IsFresh, IsJustEditAt, is_named, numbers_in};
-ghost use Rattle.tp_world.specs.Told.{call_of, event_of};
+ghost use Rattle.tp_event.specs.Views.{event_call_of, event_of};
 
-use crate::entry::Entry;
-use crate::event::{Call, Event};
-use crate::member::{Member, record_len};
+use tp_call::Call as PeerCall;
 use tp_change::Change;
+use tp_event::{Call, Entry, Event, Member, record_len};
 use tp_headline::WorldError;
-use tp_opid::{Actor, Hash};
-use tp_peer::Call as PeerCall;
+use tp_opid::Actor;
 
 /// The peer that makes a call in an event, and the call.
 pub(crate) fn called_in<'a>(event: &Event<'a>) -> Option<(usize, Call<'a>)>
-    ensures { option_map (λ x. (x.0, call_of x.1)) result ≡ events.called_in (event_of event.now) }
+    ensures { option_map (λ x. (x.0, event_call_of x.1)) result ≡ events.called_in (event_of event.now) }
 {
     match event {
         Event::Call { peer, call } => Some((*peer, *call)),
@@ -35,7 +32,7 @@ pub(crate) fn called_in<'a>(event: &Event<'a>) -> Option<(usize, Call<'a>)>
 
 // The peer that a call names beside the one that makes it.
 fn named_by(call: &Call) -> Option<usize>
-    ensures { option_to_list result ≡ events.named_by (call_of call.now) }
+    ensures { option_to_list result ≡ events.named_by (event_call_of call.now) }
 {
     match call {
         Call::Alone(PeerCall::Receive { link, .. }) => Some(link.0 as usize),
@@ -48,7 +45,7 @@ fn named_by(call: &Call) -> Option<usize>
 
 // The peer that a call needs beside the one that makes it.
 fn needed_by(call: &Call) -> Option<usize>
-    ensures { option_to_list result ≡ events.needed_by (call_of call.now) }
+    ensures { option_to_list result ≡ events.needed_by (event_call_of call.now) }
 {
     match call {
         Call::Merge { from } => Some(*from),
@@ -98,7 +95,7 @@ pub(crate) fn running_of(event: &Event) -> (Option<usize>, Option<usize>)
 
 /// The entry of the wire that an event names.
 pub(crate) fn entry_of(event: &Event) -> Option<usize>
-    ensures { option_to_list result ≡ events.entries_of (event_of event.now) }
+    ensures { option_to_list result ≡ events.wire_entries_of (event_of event.now) }
 {
     match event {
         Event::Call {
@@ -115,7 +112,7 @@ pub(crate) fn entry_of(event: &Event) -> Option<usize>
 
 /// The bytes of any origin that an event delivers.
 pub(crate) fn bytes_of<'a>(event: &Event<'a>) -> Option<&'a [u8]>
-    ensures { option_map (λ bytes. bytes.now) result ≡ events.bytes_of (event_of event.now) }
+    ensures { option_map (λ bytes. bytes.now) result ≡ events.foreign_bytes_of (event_of event.now) }
 {
     match event {
         Event::Call {
@@ -219,18 +216,6 @@ pub(crate) fn is_fresh(used: &[Actor], actor: Option<Actor>) -> bool
         Some(actor) => !is_named(used, &actor),
         None => true,
     }
-}
-
-/// Whether a change has the hash. One pass over them.
-pub(crate) fn has_hash(changes: &[Change], hash: &Hash) -> bool
-    ensures { result ≡ has changes.now hash.now }
-{
-    for change in changes {
-        if change.hash().is(hash) {
-            return true;
-        }
-    }
-    false
 }
 
 /// Whether the event keeps the whole record of the change that it would make.

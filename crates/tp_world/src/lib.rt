@@ -6,25 +6,15 @@
 //! every moment: one list holds every element ever inserted, and every text that was read is a part of it.
 #![tactic(auto)]
 
-mod entry;
-mod event;
 mod foreign;
-mod happening;
 mod judging;
-mod made;
-mod member;
-mod members;
 mod ordering;
-mod read_record;
-mod reply;
-mod state;
+mod stepping;
 mod verdict;
 mod world;
 
-pub use entry::Entry;
-pub use event::{Call, Event};
-pub use read_record::ReadRecord;
-pub use reply::{Answer, Reply};
+pub use tp_call::{Call as PeerCall, Reply as PeerReply};
+pub use tp_event::{Answer, Call, Entry, Event, ReadRecord, Reply};
 pub use tp_headline::WorldError;
-pub use tp_peer::{Call as PeerCall, Link, Reply as PeerReply};
+pub use tp_peer::Link;
 pub use world::World;

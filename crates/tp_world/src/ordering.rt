@@ -2,16 +2,16 @@
 
 ghost use Rattle.std.specs.Prelude.{◌≡◌, IfOk};
 ghost use Rattle.tp_change.specs.Elements.{inserts};
-ghost use Rattle.tp_graph.specs.Sound.{Sound};
+ghost use Rattle.tp_history.specs.Sound.{Sound};
 ghost use Rattle.tp_rga.specs.Order.{IsInOrder};
 ghost use Rattle.tp_world.specs.Order.{IsOneList, pairs_of};
 
 use std::alloc::{AllocError, Global};
 use tp_change::Change;
+use tp_edit::apply_change;
 use tp_opid::OpId;
 use tp_posindex::BlockSequence;
 use tp_rga::{PlainSequence, Sequence, Walk};
-use tp_text::apply_change;
 
 // A sequence with all elements of the changes.
 fn sequence_of<S: Sequence>(alloc: Global, changes: &[Change]) -> Result<S, AllocError>

@@ -9,16 +9,13 @@ ghost use Rattle.tp_headline.specs.Refining.{IsOneAct};
 ghost use Rattle.tp_headline.specs.Running.{GoesOnWith};
 ghost use Rattle.tp_headline.specs.World.{beginning, lists_of};
 ghost use Rattle.tp_world.specs.Order.{IsOneList};
-ghost use Rattle.tp_world.specs.Told.{event_of, reply_of};
+ghost use Rattle.tp_event.specs.Views.{event_of, event_reply_of};
 
-use crate::entry::Entry;
-use crate::event::Event;
 use crate::ordering::order_of;
-use crate::read_record::ReadRecord;
-use crate::reply::Reply;
-use crate::state::State;
+use crate::stepping::step;
 use std::alloc::Global;
 use std::marker::Model;
+use tp_event::{Entry, Event, ReadRecord, Reply, State};
 use tp_headline::WorldError;
 use tp_list::array_len;
 use tp_opid::{DocId, OpId};
@@ -38,17 +35,17 @@ impl Drop for World {
 }
 
 impl Model for World {
-    ghost use Rattle.tp_headline.specs.World.{World as Data};
+    ghost use Rattle.tp_headline.specs.World.{World as WorldState};
 
-    ghost Value = { Data };
+    ghost Value = { WorldState };
 
-    ghost use Rattle.tp_world.specs.States.{world_of};
+    ghost use Rattle.tp_event.specs.States.{world_of};
 
     ghost view = { λ w. world_of w.state };
 
-    ghost use Rattle.tp_headline.specs.Carried.{Carried};
+    ghost use Rattle.tp_headline.specs.WorldInvariant.{WorldInvariant};
 
-    ghost invariant = { λ w. Carried (world_of w.state) };
+    ghost invariant = { λ w. WorldInvariant (world_of w.state) };
 }
 
 impl World {
@@ -76,12 +73,12 @@ impl World {
     /// each change that they carry is compared with those of all that were made; one that was made is written out, and so
     /// is the one with its hash. A message that was sent isn't judged. A crash opens the journal again.
     pub fn step(&mut self, event: Event) -> Reply
-        ensures next { Next self.old (event_of event.entry) (reply_of result) self.new }
-        ensures act { IsOneAct self.old (event_of event.entry) (reply_of result) self.new }
+        ensures next { Next self.old (event_of event.entry) (event_reply_of result) self.new }
+        ensures act { IsOneAct self.old (event_of event.entry) (event_reply_of result) self.new }
         ensures headline { Headline (lists_of self.new) }
         ensures follows { Follows self.new }
     {
-        self.state.step(&event)
+        step(&mut self.state, &event)
     }
 
     /// The events happen one after another, and what is promised of a world holds at each moment between two of them. Room
@@ -89,10 +86,10 @@ impl World {
     pub fn run(&mut self, events: Vec<Event>) -> Result<Vec<Reply>, WorldError>
         ensures ok { IfOk result
             (λ replies. GoesOnWith self.old (map event_of events.entry.items)
-            (map reply_of replies.items) self.new) }
+            (map event_reply_of replies.items) self.new) }
         ensures moments { IfOk result
             (λ replies. (k : ℕ) → IsMoment self.old (map event_of events.entry.items)
-            (map reply_of replies.items) self.new k) }
+            (map event_reply_of replies.items) self.new k) }
         ensures headline { Headline (lists_of self.new) }
         ensures follows { Follows self.new }
         ensures err { IfErr result (λ e. (e ≡ OutOfMemory) × (self.new ≡ self.old)) }

@@ -38,8 +38,8 @@ local function lines_of(buffer)
   return api.nvim_buf_get_lines(buffer, 0, -1, true)
 end
 
--- How many bytes a buffer of so many lines has, with a newline after the last one, whether it is written there or not. Where a
--- line begins isn't asked for: Neovim may answer with what that was before a change.
+-- How many bytes a buffer of `count` lines has, with a newline after the last one, whether it is written there or not.
+-- Where a line begins isn't asked for: Neovim may answer with what that was before a change.
 local function size_of(buffer, count)
   local options, size = vim.bo[buffer], api.nvim_buf_get_offset(buffer, count)
   return (options.endofline or options.fixendofline and not options.binary) and size or size + 1
@@ -496,7 +496,7 @@ function Document:arrived(heads, held)
   end
 end
 
--- Insert mode was left: what is typed next is undone apart from what was typed before.
+-- Insert mode was left: what is typed next is undone separately from what was typed before.
 function Document:leave_insert()
   vim.schedule(function()
     self:flush()

@@ -57,7 +57,8 @@ local Refusal = {
   end,
 }
 
--- The refusal with the status. In a session all from 700 on is the number that the other side told, which may be any byte.
+-- The refusal with the status. In a session all from 700 on is the number that the other side sent, which may be any
+-- byte.
 function M.refusal(status, in_session)
   local name = NAMES[status] or ('status ' .. status)
   if status >= 700 and (status < 800 or in_session) then
@@ -76,8 +77,9 @@ local library
 
 local NAME = 'libtextpeer.so.0'
 
--- Where the library is, unless it is told by $TEXTPEER_LIB or g:textpeer_library: in the plugin's clone, as `ffi/build` makes it,
--- or else in the release; where there is neither, as where the plugin is installed, the system finds it by its name.
+-- Where the library is, unless it is given by $TEXTPEER_LIB or g:textpeer_library: in the plugin's clone, as
+-- `ffi/build` makes it, or else in the release; where there is neither, as where the plugin is installed, the system
+-- finds it by its name.
 local function place()
   local told = vim.env.TEXTPEER_LIB or vim.g.textpeer_library
   if told then
@@ -140,7 +142,7 @@ function Engine:close()
   end
 end
 
--- The last answer, which has as many bytes as was told.
+-- The last answer, which has as many bytes as the call said.
 function Engine:answer()
   local count = tonumber(length[0])
   local out = ffi.new('uint8_t[?]', math.max(count, 1))
@@ -193,7 +195,7 @@ function Engine:heads()
   return heads
 end
 
--- What changed since the text at the heads: rising pieces { at, count, added, text }, each of which puts the `added` characters
+-- What changed since the text at the heads: rising pieces { at, count, added, text }. Each puts the `added` characters
 -- of a text in the place of `count` ones from `at` on, by the places of the text at the heads. What both texts have is in none of
 -- them, and no two touch. Of a few changes near the end the engine finds them without going over the whole text.
 function Engine:differences_since(heads)

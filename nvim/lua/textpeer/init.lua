@@ -156,7 +156,7 @@ local function set_options(buffer, options)
   end
 end
 
--- The buffer is a plain one from now on, of which nothing is written yet. The journal has what was typed before.
+-- The buffer is a plain one from now on. Nothing of it is written yet. The journal has what was typed before.
 local function become_plain(buffer)
   release(buffer)
   unmap_undo(buffer)
@@ -220,7 +220,7 @@ vim.api.nvim_create_autocmd('VimLeavePre', {
 })
 
 -- Shows the journal in the buffer, which becomes one for it. Its 'buftype' stays empty: from an "acwrite" buffer Neovim 0.7
--- overwrites other files without being told to.
+-- overwrites other files without being asked to.
 local function begin(buffer, path, anew)
   set_options(buffer, { swapfile = false, buflisted = true, fileformat = 'unix' })
   show(buffer, path, anew)
@@ -334,7 +334,7 @@ local commands = {
   end,
 }
 
--- Calls it; a refusal is told in one line.
+-- Calls it; a refusal is shown in one line.
 function M.attempt(name, call)
   local ok, problem = pcall(call)
   if not ok then

@@ -1,4 +1,4 @@
--- How a journal is told from other files: by the bytes that it begins with.
+-- How a journal is distinguished from other files: by the bytes that it begins with.
 local say = require('textpeer.say')
 
 local M = {}

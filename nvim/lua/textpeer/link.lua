@@ -63,7 +63,7 @@ function Link:become(state)
   end
 end
 
--- The next session is in so many milliseconds.
+-- The next session is after this many milliseconds.
 function Link:plan(milliseconds)
   if self.closed then
     return

@@ -1,4 +1,4 @@
--- What a person is told, by Neovim's messages.
+-- What is said to a person, by Neovim's messages.
 local function at(level)
   return function(text)
     vim.notify('textpeer: ' .. text, level)

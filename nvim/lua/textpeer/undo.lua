@@ -6,15 +6,16 @@
 -- are one change.
 --
 -- Of each edit are kept the cursors of the characters that it inserted, of those that it deleted and of those around, and both
--- texts. To undo it deletes what it inserted, as far as that is still there, and inserts anew what it deleted: behind the
--- character before it, not where its own tombstones are, since what is inserted again comes before these. What undoes a change
--- is one change too. Changes form groups, each undone at once: a command, or what was typed until insert mode was left.
+-- texts. To undo it deletes what it inserted, as far as that is still there, and inserts anew what it deleted: after
+-- the character before it, not where its own tombstones are, since what is inserted again comes before these. What
+-- undoes a change is one change too. Changes form groups, each undone at once: a command, or what was typed until
+-- insert mode was left.
 local utf8 = require('textpeer.utf8')
 
 local Undo = {}
 Undo.__index = Undo
 
--- A change has at most so many operations, each a character that comes or goes.
+-- A change has at most this many operations, each a character that comes or goes.
 local MOST_OPERATIONS = 65536
 -- How many groups are kept.
 local MOST_GROUPS = 1000
@@ -54,7 +55,7 @@ local function parts_of(piece)
   return parts
 end
 
--- The pieces as lists, each of which is one change.
+-- The pieces as lists. Each list is one change.
 local function cut(pieces)
   local lists, room = { {} }, MOST_OPERATIONS
   local function put(piece)
@@ -124,7 +125,7 @@ function Undo:change(group, pieces, growth)
   return grown
 end
 
--- The cursors of so many characters from a place on, as runs { counter, actor, count } of consecutive counters.
+-- The cursors of `count` characters from a place on, as runs { counter, actor, count } of consecutive counters.
 function Undo:runs_from(at, count)
   local engine, runs, last = self.engine, {}, nil
   for i = 0, count <= MOST_CURSORS and count - 1 or 0 do
@@ -139,7 +140,7 @@ function Undo:runs_from(at, count)
   return runs
 end
 
--- The actor and the counter of the character, or of that which stands for it now.
+-- The actor and the counter of the character, or of that which takes its place now.
 function Undo:current(actor, counter)
   local moved = self.moved[actor]
   local to = moved and moved[counter]
@@ -151,7 +152,7 @@ function Undo:current(actor, counter)
   return actor, counter
 end
 
--- Where a character is, or that which stands for it now; nil where both are gone. `guess` is where it may well be.
+-- Where a character is, or that which takes its place now; nil where both are gone. `guess` is where it may well be.
 function Undo:place_of(actor, counter, guess)
   local engine, asked = self.engine, self.asked
   asked.actor, asked.counter = self:current(actor, counter)

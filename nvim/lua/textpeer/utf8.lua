@@ -4,7 +4,7 @@ local M = {}
 
 local byte = string.byte
 
--- What stands in the place of bytes that are no UTF-8.
+-- What takes the place of bytes that are no UTF-8.
 M.REPLACEMENT = '\239\191\189'
 
 -- How many bytes the character at `at` has, from 1; nil where there is none.
@@ -71,7 +71,7 @@ local function continues(value)
   return value ~= nil and value >= 0x80 and value < 0xC0
 end
 
--- Whether a character of the text begins after so many bytes, or the text ends there.
+-- Whether a character of the text begins after `at` bytes, or the text ends there.
 function M.is_boundary(text, at)
   return not continues(byte(text, at + 1))
 end

@@ -31,7 +31,7 @@ def some_bytes(value: BytesLike, what: str) -> bytes:
 
 
 def exact_bytes(value: BytesLike, length: int, what: str) -> bytes:
-    """The bytes, which are so many; a ValueError for another number."""
+    """The bytes, which are `length` in number; a ValueError for another number."""
     value = some_bytes(value, what)
     if len(value) != length:
         raise ValueError(f"{what} is {length} bytes, not {len(value)}")
@@ -56,7 +56,7 @@ def flat_heads(heads: Heads) -> bytes:
 
 
 def hashes_of(flat: bytes) -> Tuple[bytes, ...]:
-    """The hashes that stand one after another."""
+    """The hashes, which are one after another."""
     return tuple(flat[at : at + 32] for at in range(0, len(flat), 32))
 
 

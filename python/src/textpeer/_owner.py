@@ -68,7 +68,7 @@ class Owner:
             raise refusal(status)
 
     def _copy(self, length: int) -> bytes:
-        """The engine's last answer, of which this is the length."""
+        """The engine's last answer, which has this length."""
         out = ctypes.create_string_buffer(max(1, length))
         copied: int = self._ask(library.tp_answer, out, length)
         return out.raw[:copied]

@@ -15,7 +15,7 @@ _PIECE = 1 << 16
 
 
 def hold(session: Session, receive: Callable[[], bytes], send: Callable[[bytes], None]) -> int:
-    """Holds the session to its end by these two functions, of which the first gives no bytes at the end of its
+    """Holds the session to its end by these two functions. The first gives no bytes at the end of its
     stream. How many changes entered. The session is over then, however this ends."""
     try:
         while True:
@@ -30,7 +30,7 @@ def hold(session: Session, receive: Callable[[], bytes], send: Callable[[bytes],
             try:
                 session.receive_data(data)
             except Refused:
-                # The other side is told, if it listens.
+                # The refusal is sent to the other side, if it listens.
                 with contextlib.suppress(OSError, ValueError):
                     send(session.data_to_send())
                 raise
@@ -50,7 +50,7 @@ def one_timeout() -> Iterator[None]:
 
 
 def hold_over_socket(session: Session, connection: socket.socket, left: Callable[[], Optional[float]]) -> int:
-    """Holds the session over a connected socket, each wait of which has the time that is left by then."""
+    """Holds the session over a connected socket; each wait has the time that is left by then."""
 
     def receive() -> bytes:
         connection.settimeout(left())
@@ -107,7 +107,7 @@ def place_of(address: str) -> Tuple[str, int]:
 
 
 def clock(timeout: Optional[float]) -> Callable[[], Optional[float]]:
-    """What tells how many seconds of so many are left, and raises TimeoutError where none are; None where there is no
+    """What says how many of the seconds are left, and raises TimeoutError where none are; None where there is no
     end."""
     if timeout is None:
         return lambda: None

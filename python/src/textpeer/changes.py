@@ -38,7 +38,7 @@ class Change:
 
 
 def change_of(flat: FlatChange, named: bytes) -> Change:
-    """The change of its numbers, and of the hashes that it depends on with its message behind them."""
+    """The change of its numbers, and of the hashes that it depends on with its message after them."""
     end = 32 * flat.deps
     return Change(
         hash=bytes(flat.hash),

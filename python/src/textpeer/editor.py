@@ -355,7 +355,7 @@ class Editor(Owner):
         both had. How many changes entered here.
 
         The address is ``HOST:PORT``, with brackets around an IPv6 host. The whole takes at most `timeout` seconds,
-        but for the look-up of a name, and where the host has several addresses so many for each that doesn't answer;
+        but for the look-up of a name, and where the host has several addresses that time for each that doesn't answer;
         None is no limit.
 
         Raises OSError where there is no connection, ConnectionError where it ends too early, TimeoutError where the
@@ -383,7 +383,7 @@ class Editor(Owner):
         """Exchanges changes over a connected socket, or over a stream of bytes that is read and one that is written,
         as pipes and what ``subprocess`` gives; with one stream it is both. How many changes entered here.
 
-        Sockets and streams wait as they are told to: a socket's own timeout is for each wait, a stream has none. They
+        Sockets and streams wait as they are set to: a socket's own timeout is for each wait, a stream has none. They
         are neither closed nor shut down. Raises what `sync` does, and what the streams do.
         """
         if not isinstance(reader, socket.socket):

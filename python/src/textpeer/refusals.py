@@ -34,8 +34,8 @@ def refusal(status: int) -> Refused:
 
 
 def refusal_in_session(status: int) -> Refused:
-    """The same of a session, where all from 700 on is the number that the other side sent, which may be any of one
-    byte."""
+    """The refusal with this status in a session, where all from 700 on is the number that the other side sent, which may
+    be any of one byte."""
     if status >= 700 and not 700 < status < 706:
         return Other(status, f"the other side refused, and sent the number {status - 700}")
     return refusal(status)

@@ -19,7 +19,7 @@ class Reader(Protocol):
     """A stream of bytes that is read: its ``read1`` where it has one, else its ``read``."""
 
     def read(self, size: int, /) -> Optional[bytes]:
-        """At most so many bytes, none at the end; it may wait for some, but not for all of them."""
+        """At most `size` bytes, none at the end; it may wait for some, but not for all of them."""
 
 
 class Writer(Protocol):

@@ -1,6 +1,6 @@
 use Rattle.std.proofs.Common.{◌∙◌, List, ℕ, ap, refl}
 use Rattle.tp_document.specs.Common.{past}
-use Rattle.tp_document.specs.declared.differences.Difference.{Difference}
+use Rattle.tp_snapshot.specs.declared.differences.Difference.{Difference}
 use Rattle.tp_opid.specs.declared.hash.Hash.{Hash}
 use Rattle.tp_c.specs.Earlier.{IsFound}
 use Rattle.tp_c.specs.Heads.{AreHeads, hash_bytes}

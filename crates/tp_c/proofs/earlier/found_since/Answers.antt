@@ -1,7 +1,7 @@
 use Rattle.std.proofs.Common.{rules, ◌≡◌, ◌∙◌, List, ℕ, ap, refl, true}
 use Rattle.tp_document.specs.Common.{past}
-use Rattle.tp_document.specs.declared.differences.Difference.{Difference}
-use Rattle.tp_graph.specs.Named.{has_all}
+use Rattle.tp_snapshot.specs.declared.differences.Difference.{Difference}
+use Rattle.tp_history.specs.Named.{has_all}
 use Rattle.tp_opid.specs.declared.hash.Hash.{Hash}
 use Rattle.tp_c.specs.Earlier.{IsFound}
 use Rattle.tp_c.specs.Heads.{AreHeads, hash_bytes}

@@ -1,7 +1,7 @@
 use Rattle.std.proofs.Common.{arith}
 use Rattle.std.proofs.lemmas.List.{at_drop_all}
-use Rattle.tp_change.specs.Operations.{count_of}
-use Rattle.tp_change.proofs.Counts.{count_of_drop}
+use Rattle.tp_layout.specs.Counts.{count_of}
+use Rattle.tp_layout.proofs.Counts.{count_of_drop}
 use Rattle.tp_change.proofs.counting.count_ops.Goals as goal
 
 pub overflow_add-total : goal.overflow_add-total

@@ -1,5 +1,5 @@
 use Rattle.std.proofs.Common.{◌≡◌, ◌+◌, drop}
-use Rattle.tp_change.specs.Operations.{count_of}
+use Rattle.tp_layout.specs.Counts.{count_of}
 use Rattle.tp_change.proofs.counting.count_ops.Given as goal
 
 abbrev pub invariant-loop-entry : goal.invariant-loop-entry

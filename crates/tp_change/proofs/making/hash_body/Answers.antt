@@ -1,7 +1,7 @@
 use Rattle.std.proofs.Common.{ℕ, List, [], ap}
 use Rattle.tp_opid.specs.declared.hash.Hash.{Hash}
 use Rattle.tp_change.specs.ChangeHash.{hash_of}
-use Rattle.tp_change.specs.Spelling.{spelling}
+use Rattle.tp_layout.specs.Spelling.{spelling}
 use Rattle.tp_change.proofs.making.hash_body.Goals as goal
 
 pub returns : goal.returns

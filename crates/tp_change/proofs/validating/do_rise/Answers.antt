@@ -2,7 +2,7 @@ use Rattle.std.proofs.Common.{sym, ◌∙◌, subst}
 use Rattle.std.specs.List.{All}
 use Rattle.std.proofs.lemmas.List.{take_all}
 use Rattle.std.proofs.lemmas.List.Elements.{All-more}
-use Rattle.tp_change.specs.Limits.{IsHash}
+use Rattle.tp_layout.specs.Limits.{IsHash}
 use Rattle.tp_change.proofs.ValidatedSteps.{rises_step}
 use Rattle.tp_change.proofs.validating.do_rise.Goals as goal
 

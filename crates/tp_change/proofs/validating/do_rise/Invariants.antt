@@ -1,7 +1,7 @@
 use Rattle.std.proofs.Common.{◌≡◌, take, drop, None}
 use Rattle.std.specs.List.{All}
 use Rattle.tp_change.specs.Validated.{rises_after}
-use Rattle.tp_change.specs.Limits.{IsHash}
+use Rattle.tp_layout.specs.Limits.{IsHash}
 use Rattle.tp_change.proofs.validating.do_rise.Given as goal
 
 abbrev pub invariant-loop-hash : goal.invariant-loop-hash

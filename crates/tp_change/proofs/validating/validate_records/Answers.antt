@@ -2,7 +2,7 @@ use Rattle.std.proofs.Common.{◌∙◌, subst}
 use Rattle.std.specs.List.{All}
 use Rattle.std.proofs.lemmas.List.{take_all}
 use Rattle.std.proofs.lemmas.List.Elements.{All-more}
-use Rattle.tp_change.specs.Limits.{IsTypedRecord}
+use Rattle.tp_layout.specs.Limits.{IsTypedRecord}
 use Rattle.tp_change.proofs.ValidatedSteps.{records_step}
 use Rattle.tp_change.proofs.validating.validate_records.Goals as goal
 

@@ -1,7 +1,7 @@
 use Rattle.std.proofs.Common.{◌≡◌, take, drop}
 use Rattle.std.specs.List.{All}
 use Rattle.tp_change.specs.Validated.{validated_records}
-use Rattle.tp_change.specs.Limits.{IsTypedRecord}
+use Rattle.tp_layout.specs.Limits.{IsTypedRecord}
 use Rattle.tp_change.proofs.validating.validate_records.Given as goal
 
 abbrev pub invariant-loop-entry : goal.invariant-loop-entry

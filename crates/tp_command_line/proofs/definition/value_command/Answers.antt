@@ -5,4 +5,4 @@ use Rattle.tp_command_line.proofs.definition.value_command.Goals as goal
 
 pub returns : goal.returns
 returns c =
-    IfOk-map c.arg.result _ _ (λ r added. argument_added (with_rules c.args.name.now []) _ _ c.required.result r c.named.ensures c.required.ensures.rule c.required.ensures.local added) c.arg.ensures
+    IfOk-map c.arg.result _ _ (λ r added. argument_added (with_rules c.args.name.now []) _ _ c.required_argument.result r c.bare_command.ensures c.required_argument.ensures.rule c.required_argument.ensures.local added) c.arg.ensures

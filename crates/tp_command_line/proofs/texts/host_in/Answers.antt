@@ -8,7 +8,7 @@ use Rattle.tp_command_line.proofs.texts.host_in.Goals as goal
 pub returns-in-None : goal.returns-in-None
 returns-in-None c name port is = has_colon c.args.text.now name port is (c.in-None.ensures.byte (lit< tt) (λ w o f. f))
 
--- what stands before the colon is no name
+-- what is before the colon is no name
 pub returns-then-not-is_host_name : goal.returns-then-not-is_host_name
 returns-then-not-is_host_name c name port is =
     let parts = c.in-Some.ensures.byte (lit< tt) (λ w o f. f) in
@@ -16,7 +16,7 @@ returns-then-not-is_host_name c name port is =
     let named : is_host_name c.in-Some.name.now ≡ true = ap is_host_name same ∙ is.named in
     grind arith
 
--- what stands after it is no port
+-- what is after it is no port
 pub returns-in-Err : goal.returns-in-Err
 returns-in-Err c name port is =
     let parts = c.in-Some.ensures.byte (lit< tt) (λ w o f. f) in

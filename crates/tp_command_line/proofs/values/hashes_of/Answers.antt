@@ -4,7 +4,7 @@ use Rattle.std.specs.Prelude.{option_map, unwrap_or}
 use Rattle.clap.specs.Words.{Text, found_of, rows_of}
 use Rattle.clap.proofs.WalkLemmas.{raw_values-rows}
 use Rattle.tp_opid.specs.declared.hash.Hash.{Hash}
-use Rattle.tp_command_line.specs.Values.{AreHashes}
+use Rattle.tp_command_line.specs.Values.{AreHexOf}
 use Rattle.tp_command_line.proofs.HashTexts.{unread}
 use Rattle.tp_command_line.proofs.Subcommands.{IfErr-map, IfOk-map}
 use Rattle.tp_command_line.proofs.values.hashes_of.Goals as goal
@@ -14,7 +14,7 @@ returns-in-Some-clause-ok c =
     let all : Option (List Text) → List Text = λ o. unwrap_or o [] in
     let given : Option (Bor (List (Bor Text))) → Option (List Text) = option_map (λ s. map (λ h. h.now) s.now) in
     let is = sym (ap given c.in-Some.is) ∙ (c.get_strs.ensures ∙ raw_values-rows (found_of c.args.found.now) c.args.id.now) in
-    IfOk-map c.hashes_in.result _ _ (λ v are. subst (λ (ts : List Text). AreHashes ts v.items) (ap all is) are) c.hashes_in.ensures.ok
+    IfOk-map c.hashes_in.result _ _ (λ v are. subst (λ (ts : List Text). AreHexOf ts v.items) (ap all is) are) c.hashes_in.ensures.ok
 
 pub returns-in-Some-clause-err : goal.returns-in-Some-clause-err
 returns-in-Some-clause-err c =
@@ -28,4 +28,4 @@ returns-in-None-clause-ok c =
     let all : Option (List Text) → List Text = λ o. unwrap_or o [] in
     let given : Option (Bor (List (Bor Text))) → Option (List Text) = option_map (λ s. map (λ h. h.now) s.now) in
     let is = sym (ap given c.in-None.is) ∙ (c.get_strs.ensures ∙ raw_values-rows (found_of c.args.found.now) c.args.id.now) in
-    subst (λ (ts : List Text). AreHashes ts c.new.result.items) (ap all is) (subst (λ (hs : List Hash). AreHashes [] hs) (sym c.new.ensures.items) tt)
+    subst (λ (ts : List Text). AreHexOf ts c.new.result.items) (ap all is) (subst (λ (hs : List Hash). AreHexOf [] hs) (sym c.new.ensures.items) tt)

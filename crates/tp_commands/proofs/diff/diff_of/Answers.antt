@@ -1,16 +1,15 @@
 use Rattle.std.proofs.Common.{◌∙◌, ap}
 use Rattle.std.proofs.lemmas.Result.{IfOk-weaker}
-use Rattle.tp_hunks.proofs.LineLists.{texts}
-use Rattle.tp_commands.proofs.DiffLaws.{hunks_joined}
+use Rattle.std.specs.List.{flat_map}
+use Rattle.tp_hunks.specs.Lines.{lines_of_text}
+use Rattle.tp_hunks.specs.Printing.{hunk_lines}
 use Rattle.tp_commands.proofs.diff.diff_of.Goals as goal
 
 pub returns : goal.returns
 returns c =
-    IfOk-weaker c.hunk_texts.result _ _
+    IfOk-weaker c.hunk_text.result _ _
     (λ l e. record {
       hunks = c.in_ok-hunks.hunks.items;
       are_hunks = c.in_ok-hunks.ensures;
-      spelled = e
-          ∙ hunks_joined _ _ _ _ _ _ (ap texts c.deref.ensures.value ∙ c.in_ok-old_lines.ensures) (ap texts c.deref-2.ensures.value ∙ c.in_ok-new_lines.ensures)
-          c.deref-3.ensures.value;
-    }) c.hunk_texts.ensures
+      spelled = e ∙ ap (flat_map (hunk_lines (lines_of_text c.args.old.now) (lines_of_text c.args.new.now))) c.deref.ensures.value;
+    }) c.hunk_text.ensures

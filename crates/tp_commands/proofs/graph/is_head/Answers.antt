@@ -2,8 +2,8 @@ use Rattle.std.proofs.Common.{◌∙◌, List, length, subst}
 use Rattle.std.specs.List.Sorted.{IsBinarySearchResult, IsSearchInRange}
 use Rattle.tp_opid.specs.declared.hash.Hash.{Hash}
 use Rattle.tp_opid.specs.Order.{hash_cmp}
-use Rattle.tp_graph.specs.Heads.{heads}
-use Rattle.tp_graph.proofs.HeadsLaws.{heads_rise}
+use Rattle.tp_history.specs.Heads.{heads}
+use Rattle.tp_history.proofs.HeadsLaws.{heads_rise}
 use Rattle.tp_commands.proofs.GraphLines.{found_among}
 use Rattle.tp_commands.proofs.graph.is_head.Goals as goal
 

@@ -8,7 +8,7 @@ use Rattle.std.specs.String.{string_bytes}
 use Rattle.tp_commands.proofs.LogLines.{is_escaped}
 use Rattle.tp_commands.proofs.log.put_char.Goals as goal
 
--- the escape's characters are all put behind the line
+-- the escape's characters are all put after the line
 pub returns-then-ch-eq92 : goal.returns-then-ch-eq92
 returns-then-ch-eq92 c =
     let before = string_bytes c.args.line.now in

@@ -8,4 +8,4 @@ pub returns : goal.returns
 returns c =
     IfOk-weaker c.format.result _ _
     (λ l e. pretty_joined _ _ _ _ _ _ _ _ _ _ e (c.in_ok-hash.ensures ∙ ap (λ h. encode_lower (take 4 h.0)) c.hash.ensures.hash)
-    (c.in_ok-actor.ensures ∙ ap (λ a. encode_lower (take 4 a.0)) c.actor.ensures) c.inserted-inserted.ensures c.deleted-deleted.ensures) c.format.ensures.ok
+    (c.in_ok-actor.ensures ∙ ap (λ a. encode_lower (take 4 a.0)) c.actor.ensures) c.inserts_in-inserted.ensures c.deletes_in-deleted.ensures) c.format.ensures.ok

@@ -1,6 +1,6 @@
 use Rattle.std.proofs.Common.{List, arith, subst, sym}
-use Rattle.tp_change.specs.declared.parts.ChangeParts.{ChangeParts}
-use Rattle.tp_graph.specs.Sound.{Sound}
+use Rattle.tp_layout.specs.declared.parts.ChangeParts.{ChangeParts}
+use Rattle.tp_history.specs.Sound.{Sound}
 use Rattle.tp_commands.proofs.AuthorLaws.{author_step}
 use Rattle.tp_commands.proofs.status.authors.Goals as goal
 

@@ -1,7 +1,7 @@
 use Rattle.std.proofs.Common.{◌∙◌, ap, length}
 use Rattle.hex.specs.Hex.{encode_lower}
-use Rattle.tp_commands.specs.Reading.{line}
 use Rattle.tp_commands.proofs.StatusLaws.{document_joined}
+use Rattle.tp_list.specs.Bytes.{line}
 use Rattle.tp_commands.proofs.status.document_lines.Goals as goal
 
 pub returns-clause-ok : goal.returns-clause-ok

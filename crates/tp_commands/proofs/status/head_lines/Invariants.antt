@@ -2,8 +2,8 @@ use Rattle.std.proofs.Common.{◌≡◌, ◌++◌, codes, length, take}
 use Rattle.std.specs.Fmt.{decimal}
 use Rattle.std.specs.List.{flat_map}
 use Rattle.std.specs.String.{string_bytes}
-use Rattle.tp_commands.specs.Reading.{line}
 use Rattle.tp_commands.specs.Status.{head_line}
+use Rattle.tp_list.specs.Bytes.{line}
 use Rattle.tp_commands.proofs.status.head_lines.Given as goal
 
 -- the lines so far are those of the heads so far

@@ -1,6 +1,6 @@
 use Rattle.std.proofs.Common.{◌≡◌, ◌∙◌, List, ℕ, ap, subst, sym}
 use Rattle.std.specs.Str.{chars}
-use Rattle.tp_text.specs.Text.{IsTextOf}
+use Rattle.tp_edit.specs.Text.{IsTextOf}
 use Rattle.tp_commands.proofs.Updates.{no_text}
 use Rattle.tp_commands.proofs.updating.has_text.Goals as goal
 

@@ -18,7 +18,7 @@ loop-i-preserved c =
     ∷ c.block-in-loop-i-2.result ∷ c.block-in-loop-i-3.result ∷ []) c.loop-i.i c.loop-i.invariant
     (in_each _ c.blocks-2.ensures.count c.blocks-3.ensures.count c.blocks-4.ensures.count c.blocks-5.ensures.count)
     (in_each _ c.block.ensures c.block-in-loop-i.ensures c.block-in-loop-i-2.ensures c.block-in-loop-i-3.ensures)
-    c.compressed-state.ensures c.write_ended.ensures.ended c.write_ended.ensures.others c.write_ended.array_long
+    c.after_blocks-state.ensures c.write_ended.ensures.ended c.write_ended.ensures.others c.write_ended.array_long
 
 pub returns : goal.returns
 returns c =

@@ -4,4 +4,4 @@ use Rattle.tp_digest.proofs.words.big_sigma1.Goals as goal
 
 pub returns : goal.returns
 returns c =
-    both bit_xor _ _ _ _ (both bit_xor _ _ _ _ c.rotated.ensures c.rotated-2.ensures) c.rotated-3.ensures
+    both bit_xor _ _ _ _ (both bit_xor _ _ _ _ c.rotate_lanes.ensures c.rotate_lanes-2.ensures) c.rotate_lanes-3.ensures

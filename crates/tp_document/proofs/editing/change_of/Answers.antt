@@ -1,4 +1,4 @@
-use Rattle.tp_document.proofs.Common.{◌≡◌, ◌+◌, ◌<◌, ◌^◌, List, length, subst, sym, ap, chars, OpId, ChangeParts, count_by, shown, AllInRange, asking, IsEdit}
+use Rattle.tp_document.proofs.Common.{◌≡◌, ◌+◌, ◌<◌, ◌^◌, List, length, subst, sym, ap, chars, OpId, ChangeParts, count_by, visible_of, AllInRange, asking, IsEdit}
 use Rattle.tp_document.proofs.EditFits.{range_of}
 use Rattle.tp_document.proofs.EditSizes.{edit_limits}
 use Rattle.tp_document.proofs.EditAnswers.{edit_made}
@@ -9,7 +9,7 @@ parts_of-requires-clause-in_range g c =
     let S = g.S.Sequence in
     let L = S.placed c.args.sequence.now in
     let h = c.requires.holds in
-    subst (λ (R : List (OpId × OpId)). AllInRange (length (shown R L)) c.args.splices.now) (sym h.deletes)
+    subst (λ (R : List (OpId × OpId)). AllInRange (length (visible_of R L)) c.args.splices.now) (sym h.deletes)
     (range_of c.args.graph.now.applied L c.args.splices.now h.sound h.order c.requires.within.counters.before.asks.range)
 
 pub make_change-requires : goal.make_change-requires

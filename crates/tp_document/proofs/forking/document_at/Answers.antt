@@ -1,5 +1,5 @@
 use Rattle.tp_document.proofs.Common.{◌≡◌, None, ◌∙◌, ◌∷◌, [], ◌++◌, ap, sym, refl, subst, List, get_or, ChangeParts, cause, slice_get_read}
-use Rattle.tp_document.proofs.ChangePlaces.{place_at, changes_at-more}
+use Rattle.tp_document.proofs.ChangePlaces.{place_at, changes_at_places-more}
 use Rattle.tp_document.proofs.ForkLaws.{next_enters}
 use Rattle.tp_document.proofs.forking.document_at.Goals as goal
 
@@ -28,6 +28,6 @@ loop-place-preserved g c =
       applied =
           c.in_ok-enter_copy.ensures.ok
           ∙ ap (λ (D : List ChangeParts). D ++ x ∷ []) c.loop-place.invariant.applied
-          ∙ sym (changes_at-more C ps i x c.loop-place-test.true (slice_get_read C _ (get_or ps i 0) x refl within c.index-changes-place.is));
+          ∙ sym (changes_at_places-more C ps i x c.loop-place-test.true (slice_get_read C _ (get_or ps i 0) x refl within c.index-changes-place.is));
       waiting = c.in_ok-enter_copy.ensures.waiting ∙ c.loop-place.invariant.waiting;
     }

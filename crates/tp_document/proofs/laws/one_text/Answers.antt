@@ -1,4 +1,4 @@
-use Rattle.tp_document.proofs.ShowingLaws as laws
+use Rattle.tp_snapshot.proofs.ShowingLaws as laws
 use Rattle.tp_document.proofs.laws.one_text.Goals as goal
 
 pub returns : goal.returns

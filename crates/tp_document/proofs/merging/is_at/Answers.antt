@@ -3,8 +3,8 @@ use Rattle.tp_list.specs.Members.{In}
 use Rattle.tp_list.proofs.Members.{In-get_or}
 use Rattle.tp_opid.specs.Same.{same_hash}
 use Rattle.tp_opid.proofs.Orders.{same_hash-same}
-use Rattle.tp_change.specs.declared.parts.ChangeParts.{ChangeParts}
-use Rattle.tp_graph.proofs.NamedLaws.{In-has}
+use Rattle.tp_layout.specs.declared.parts.ChangeParts.{ChangeParts}
+use Rattle.tp_history.proofs.NamedLaws.{In-has}
 use Rattle.tp_document.proofs.merging.is_at.Goals as goal
 
 pub returns-then-place-changes : goal.returns-then-place-changes

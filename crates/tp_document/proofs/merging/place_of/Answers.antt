@@ -1,7 +1,7 @@
 use Rattle.std.proofs.Common.{ap, ◌∙◌}
 use Rattle.std.specs.Option.{is_some}
-use Rattle.tp_graph.specs.Named.{has}
-use Rattle.tp_graph.proofs.PlacesLaws.{is_some-place_from}
+use Rattle.tp_history.specs.Named.{has}
+use Rattle.tp_history.proofs.PlacesLaws.{is_some-place_from}
 use Rattle.tp_document.specs.DocState.{DocState}
 use Rattle.tp_document.proofs.merging.place_of.Goals as goal
 

@@ -5,7 +5,7 @@ use Rattle.std.proofs.lemmas.List.{length-map}
 use Rattle.std.proofs.lemmas.Option.{slice_get-map, slice_get_cases}
 use Rattle.tp_opid.specs.declared.op_id.OpId.{OpId}
 use Rattle.tp_opid.specs.Insert.{Insert}
-use Rattle.tp_rga.specs.Shown.{shown}
+use Rattle.tp_rga.specs.Shown.{visible_of}
 use Rattle.tp_edit.specs.EditRecords.{ids_of}
 use Rattle.tp_edit.proofs.landing.visible_id.Goals as goal
 
@@ -22,17 +22,17 @@ found_at L k r x f g = slice_get-map (λ (e : Insert). e.id) L k ∙ sym f ∙ g
 
 pub overflow_cast-position : goal.overflow_cast-position
 overflow_cast-position g c =
-    let L = shown (g.S.Sequence.removals c.args.sequence.now) (g.S.Sequence.placed c.args.sequence.now) in
+    let L = visible_of (g.S.Sequence.removals c.args.sequence.now) (g.S.Sequence.placed c.args.sequence.now) in
     let size = length-map L (λ (e : Insert). e.id) in
     omega (arith, c.requires.there, size, c.requires.counted)
 
 pub unreachable-requires : goal.unreachable-requires
 unreachable-requires g c =
-    let L = shown (g.S.Sequence.removals c.args.sequence.now) (g.S.Sequence.placed c.args.sequence.now) in
+    let L = visible_of (g.S.Sequence.removals c.args.sequence.now) (g.S.Sequence.placed c.args.sequence.now) in
     let size = length-map L (λ (e : Insert). e.id) in
     no_place L c.args.position c.id_at.result (omega (arith, c.requires.there, size)) c.in-None.is c.id_at.ensures
 
 pub returns : goal.returns
 returns g c =
-    let L = shown (g.S.Sequence.removals c.args.sequence.now) (g.S.Sequence.placed c.args.sequence.now) in
+    let L = visible_of (g.S.Sequence.removals c.args.sequence.now) (g.S.Sequence.placed c.args.sequence.now) in
     found_at L c.args.position c.id_at.result _ c.id_at.ensures c.in-Some.is

@@ -2,7 +2,7 @@ use Rattle.std.proofs.Common.{◌≡◌, ◌+◌, ◌-◌, length, [], arith, re
 use Rattle.std.proofs.lemmas.Bool.{false≢true}
 use Rattle.std.proofs.lemmas.List.{drop_all}
 use Rattle.tp_edit.specs.declared.splice.Splice.{Splice}
-use Rattle.tp_edit.specs.Splices.{AllInRange, inserted}
+use Rattle.tp_edit.specs.Splices.{AllInRange, inserted_chars}
 use Rattle.tp_edit.proofs.SpliceLists.{AllInRange-next, AllInRange-step}
 use Rattle.tp_edit.proofs.splice.in_range.Goals as goal
 
@@ -22,7 +22,7 @@ loop-splice-preserved c =
     let ss = c.args.splices.now in
     let i = c.loop-splice.splice-index in
     let d : Splice = record { at = 0; del = 0; text = record { ref_ptr = (0, 0); now = [] } } in
-    let after : c.loop-splice.length - (get_or ss i d).del + c.inserted_count.result ≡ c.loop-splice.length - (get_or ss i d).del + length (inserted (get_or ss i d)) =
+    let after : c.loop-splice.length - (get_or ss i d).del + c.inserted_count.result ≡ c.loop-splice.length - (get_or ss i d).del + length (inserted_chars (get_or ss i d)) =
     ap (λ k. c.loop-splice.length - (get_or ss i d).del + k) c.inserted_count.ensures.count in
     record {
       near = omega (arith, c.loop-splice.invariant.near, c.inserted_count.type_inv);

@@ -1,6 +1,6 @@
 use Rattle.std.proofs.Common.{subst, sym}
 use Rattle.tp_peer.specs.Appending.{journal_state}
-use Rattle.tp_editor.specs.Opening.{NotOpenedOn}
+use Rattle.tp_editor.specs.Opening.{RefusesOpeningOn}
 use Rattle.tp_editor.proofs.TailLaws.{none_cut, not_recovered, not_whole}
 use Rattle.tp_editor.proofs.opening.open_whole.Goals as goal
 
@@ -14,5 +14,5 @@ returns-in-Err-check_tail-clause-err g c =
 
 pub returns-in-Err-clause-err : goal.returns-in-Err-clause-err
 returns-in-Err-clause-err g c =
-    subst (NotOpenedOn (journal_state (g.J.Journal.content c.args.journal) (g.J.Journal.device c.args.journal)) c.args.actor) (sym c.from.ensures)
+    subst (RefusesOpeningOn (journal_state (g.J.Journal.content c.args.journal) (g.J.Journal.device c.args.journal)) c.args.actor) (sym c.from.ensures)
     (not_recovered _ _ _ (rw c.in-Err.is at c.requires.refused))

@@ -1,7 +1,7 @@
 use Rattle.std.proofs.Common.{◌≤◌, ℕ, List, [], length, subst, sym, arith}
 use Rattle.std.proofs.lemmas.Result.{err_from_is_err_and}
 use Rattle.tp_frame.specs.Joining.{with_given}
-use Rattle.tp_frame.specs.Parts.{Stands}
+use Rattle.tp_frame.specs.Parts.{IsPartStateOf}
 use Rattle.tp_frame.proofs.JoinLaws.{body_waits, body_err, piece_all, never_none, never_begin, never_whole, never_end}
 use Rattle.tp_frame.proofs.joining.sync_body.Goals as goal
 
@@ -19,7 +19,7 @@ pub end-requires-in-Some-Piece : goal.end-requires-in-Some-Piece
 end-requires-in-Some-Piece c =
     let le : c.args.len ≤ length c.args.parts.now.held = omega (arith, c.if-held-len.false, c.held.ensures) in
     let answers = rw (c.in-Some-Piece.is, c.in-Some-Piece.field-0-is) at (c.in_ok-body.ensures.exact (with_given c.args.came.now.bytes c.args.len []) c.requires) in
-    subst (λ (b : List ℕ). Stands (with_given c.args.came.now.bytes (length b) b) c.next.new.self) (sym c.as_slice.ensures)
+    subst (λ (b : List ℕ). IsPartStateOf (with_given c.args.came.now.bytes (length b) b) c.next.new.self) (sym c.as_slice.ensures)
     (piece_all c.args.came.now.bytes c.args.len c.in-Some-Piece.body c.args.parts.now c.next.new.self c.requires le answers)
 
 pub unreachable-requires : goal.unreachable-requires

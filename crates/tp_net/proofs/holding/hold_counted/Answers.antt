@@ -1,4 +1,4 @@
-use Rattle.tp_net.proofs.Common.{SeatState, Meets}
+use Rattle.tp_net.proofs.Common.{SeatKnowledge, AttemptsSession}
 use Rattle.std.proofs.Common.{rules, inl, inr}
 use Rattle.tp_net.proofs.Counting.{meets}
 use Rattle.tp_net.proofs.holding.hold_counted.Goals as goal
@@ -7,9 +7,9 @@ use Rattle.tp_net.proofs.holding.hold_counted.Goals as goal
 pub returns-clause-meets : goal.returns-clause-meets
 returns-clause-meets g c =
     let w = c.run_session-result.ensures.session in
-    let t : SeatState = c.new-host.result.seat.now.state in
-    let t' : SeatState = c.run_session-result.new.host.seat.now.state in
-    let fact : Meets c.args.role c.id-id.result t c.run_session-result.result t' = meets c.args.role c.id-id.result t c.run_session-result.result t' (w.0, w.3) in
+    let t : SeatKnowledge = c.new-host.result.seat.now.state in
+    let t' : SeatKnowledge = c.run_session-result.new.host.seat.now.state in
+    let fact : AttemptsSession c.args.role c.id-id.result t c.run_session-result.result t' = meets c.args.role c.id-id.result t c.run_session-result.result t' (w.0, w.3) in
     search (rules, rw c.id-id.ensures at fact)
 
 -- what was written are the frames that it sent

@@ -1,12 +1,12 @@
 use Rattle.std.proofs.Common.{◌≡◌, ◌≤◌, ℕ, List, None, Option}
-use Rattle.tp_report.specs.Telling.{Grows}
+use Rattle.tp_report.specs.Telling.{GrowsBy}
 use Rattle.tp_online.specs.Sessions.{ReportsEach, IsFollowed}
 use Rattle.tp_online.proofs.following.follow_file.Given as goal
 
--- so many sessions were held so far, and what is printed of them was written
+-- a number of sessions was held so far, and what is printed of them was written
 abbrev pub invariant-loop-turn : goal.invariant-loop-turn
 invariant-loop-turn g l =
     (l.held ≤ l.sessions)
     × (l.cut ≡ None)
     × ((cuts : List (Option ℕ)) × ReportsEach (g.R.Folders.saw l.rt) l.file cuts (g.E.Write.contents l.fn.err) (g.E.Write.contents l.err))
-    × Grows (IsFollowed (g.R.Folders.saw l.rt) l.file l.key l.held) (g.W.Write.contents l.fn.out) (g.W.Write.contents l.out)
+    × GrowsBy (IsFollowed (g.R.Folders.saw l.rt) l.file l.key l.held) (g.W.Write.contents l.fn.out) (g.W.Write.contents l.out)

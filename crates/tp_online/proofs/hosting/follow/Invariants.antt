@@ -1,4 +1,4 @@
-use Rattle.tp_online.specs.Showing.{Follows}
+use Rattle.tp_online.specs.Showing.{FollowsServer}
 use Rattle.tp_online.proofs.hosting.follow.Given as goal
 
 -- the seat went on by the sessions so far
@@ -6,5 +6,5 @@ abbrev pub invariant-loop : goal.invariant-loop
 invariant-loop g l = record {
   can : (goal.iterator-loop g).can_next l.iterator';
   finite : (goal.iterator-loop g).is_finite l.iterator';
-  follows : Follows l.fn.served.opened.id l.fn.seat l.seat;
+  follows : FollowsServer l.fn.served.opened.id l.fn.seat l.seat;
 }

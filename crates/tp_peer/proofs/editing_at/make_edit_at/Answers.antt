@@ -1,9 +1,9 @@
 use Rattle.std.proofs.Common.{rules}
 use Rattle.std.specs.Str.{chars}
 use Rattle.tp_peer.proofs.Common.{◌≡◌, true, asking}
-use Rattle.tp_graph.specs.Heads.{heads}
-use Rattle.tp_graph.specs.Named.{has_all}
-use Rattle.tp_graph.specs.Past.{past}
+use Rattle.tp_history.specs.Heads.{heads}
+use Rattle.tp_history.specs.Named.{has_all}
+use Rattle.tp_history.specs.Past.{past}
 use Rattle.tp_peer.proofs.EarlierLaws.{all_named, made_at, made_now}
 use Rattle.tp_peer.proofs.editing_at.make_edit_at.Goals as goal
 

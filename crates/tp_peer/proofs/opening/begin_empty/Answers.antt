@@ -1,5 +1,5 @@
 use Rattle.std.proofs.Common.{refl}
-use Rattle.tp_journal.proofs.RecoveryLaws.{recovers_or_refused}
+use Rattle.tp_recovery.proofs.RecoveryLaws.{recovers_or_refused}
 use Rattle.tp_store.specs.declared.error.StoreError.TheVariants.{NoHeader}
 use Rattle.tp_peer.proofs.opening.begin_empty.Goals as goal
 

@@ -2,7 +2,7 @@ use Rattle.std.proofs.Common.{◌≡◌, ◌<◌, ◌+◌, ◌-◌, ◌*◌, ◌
 use Rattle.std.specs.Result.{is_ok}
 use Rattle.std.proofs.lemmas.List.{length-append}
 use Rattle.std.proofs.lemmas.Nat.{mul-le}
-use Rattle.tp_posindex.specs.Counted.{AreSums}
+use Rattle.tp_posindex.specs.CountsState.{AreSums}
 use Rattle.tp_posindex.proofs.Laying.{sum_stretch-le}
 use Rattle.tp_posindex.proofs.Grouping.{AreSums-push, group_begins, below_times}
 use Rattle.tp_posindex.proofs.counts.sum_up.Goals as goal

@@ -1,5 +1,5 @@
 use Rattle.std.proofs.Common.{◌≤◌, ◌<◌, ◌+◌, ◌-◌, ◌*◌, length, vec_len, vec_capacity}
-use Rattle.tp_posindex.specs.Counted.{AreSums}
+use Rattle.tp_posindex.specs.CountsState.{AreSums}
 use Rattle.tp_posindex.proofs.counts.sum_up.Given as goal
 
 -- the sums that are there are those of the first groups, and there is room for the others

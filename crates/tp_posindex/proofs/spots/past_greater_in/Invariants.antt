@@ -1,6 +1,6 @@
 use Rattle.std.specs.List.{AllWithin}
 use Rattle.tp_opid.specs.Order.{Below}
-use Rattle.tp_posindex.specs.Blocked.{element_at}
+use Rattle.tp_elements.specs.Came.{element_at}
 use Rattle.tp_posindex.proofs.spots.past_greater_in.Given as goal
 
 -- what was passed is above the identifier

@@ -12,7 +12,7 @@ returns-in-Err-clause-refused g c refused =
     (λ help. inr ([], [], None, help.0, g.E.Write.contents c.args.err.now, help.2, inl (help_asked _ _ c.in-Err.fault c.in-Err.ensures.fails help.1, refl, refl, Keeps-refl _, help.3)))
     (c.explain.ensures.refused refused)
 
--- of help nothing is told
+-- of help nothing is printed on the error stream
 pub returns-in-Err-clause-done : goal.returns-in-Err-clause-done
 returns-in-Err-clause-done g c done =
     let d = c.explain.ensures.done done in

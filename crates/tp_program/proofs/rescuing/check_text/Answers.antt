@@ -8,4 +8,4 @@ pub returns : goal.returns
 returns c =
     let a = c.args in
     (rw c.in_ok-refused.ensures at c.in_ok-format.ensures.ok)
-    ∙ grouped (codes "changes ") (decimal a.changes) (codes "\nkept ") (decimal a.keep) (codes "\nbehind ") (decimal a.behind) (codes "\nwhole ") (decimal a.whole) (codes "\n") (refused_line a.fault a.keep)
+    ∙ grouped (codes "changes ") (decimal a.changes) (codes "\nkept ") (decimal a.keep) (codes "\nbehind ") (decimal a.beyond) (codes "\nwhole ") (decimal a.whole) (codes "\n") (refused_line a.fault a.keep)

@@ -6,4 +6,4 @@ use Rattle.tp_program.proofs.rescuing.left_lines.Given as goal
 
 -- the lines so far are those of the changes so far
 abbrev pub invariant-loop-change : goal.invariant-loop-change
-invariant-loop-change l = string_bytes l.lines ≡ flat_map (left_line l.document.applied) (take l.change-index l.changes)
+invariant-loop-change l = string_bytes l.lines ≡ flat_map (left_line l.graph.applied) (take l.change-index l.changes)

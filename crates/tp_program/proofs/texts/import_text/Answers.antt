@@ -3,7 +3,7 @@ use Rattle.std.specs.Str.{chars}
 use Rattle.tp_commands.specs.Updating.{UpdatesJournal}
 use Rattle.tp_disk.specs.DiskView.{WasLeft}
 use Rattle.tp_program.proofs.DoneLaws.{done_on, on_value, refused_on}
-use Rattle.tp_disk.specs.Keys.{after_draw, drawn}
+use Rattle.tp_disk.specs.Keys.{after_draw, drawn_actor}
 use Rattle.tp_program.proofs.texts.import_text.Goals as goal
 
 pub returns-clause-lines : goal.returns-clause-lines
@@ -12,7 +12,7 @@ returns-clause-lines g c =
     let after = c.in_ok-journal-2.journal.file.content in
     let bytes = c.in_ok-bytes.bytes.items in
     let text : c.in_ok-text.text.now ≡ bytes = c.in_ok-text.ensures.ok ∙ c.deref.ensures.value in
-    let actor : c.draw-actor.result ≡ drawn (after_draw c.in_ok-generator.generator) = c.draw-actor.ensures.actor ∙ ap drawn c.draw.ensures.after in
+    let actor : c.draw-actor.result ≡ drawn_actor (after_draw c.in_ok-generator.generator) = c.draw-actor.ensures.actor ∙ ap drawn_actor c.draw.ensures.after in
     on_value _ _ c.made_texts.result c.made_texts.ensures.lines (λ p spelled. (
       bytes,
       c.in_ok-bytes.ensures,
@@ -25,7 +25,7 @@ returns-clause-lines g c =
           hashes = c.in_ok-journal-2.hashes.items;
           keyed = c.in_ok-generator.ensures;
           empty = c.in_ok-journal-2.ensures.empty;
-          updates = subst (λ (t : List ℕ). UpdatesJournal before (drawn (after_draw c.in_ok-generator.generator)) (chars t) c.args.time (chars c.args.message.now) c.in_ok-journal-2.hashes.items after) text
+          updates = subst (λ (t : List ℕ). UpdatesJournal before (drawn_actor (after_draw c.in_ok-generator.generator)) (chars t) c.args.time (chars c.args.message.now) c.in_ok-journal-2.hashes.items after) text
               (subst (λ a. UpdatesJournal before a (chars c.in_ok-text.text.now) c.args.time (chars c.args.message.now) c.in_ok-journal-2.hashes.items after) actor c.in_ok-journal-2.ensures.updates);
           spelled = spelled;
         },

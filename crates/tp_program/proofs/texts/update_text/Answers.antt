@@ -3,7 +3,7 @@ use Rattle.std.specs.Str.{chars}
 use Rattle.tp_commands.specs.Updating.{UpdatesJournal}
 use Rattle.tp_disk.specs.DiskView.{WasLeft}
 use Rattle.tp_program.proofs.DoneLaws.{done_on, on_value, refused_on}
-use Rattle.tp_disk.specs.Keys.{drawn}
+use Rattle.tp_disk.specs.Keys.{drawn_actor}
 use Rattle.tp_program.proofs.texts.update_text.Goals as goal
 
 pub returns-clause-lines : goal.returns-clause-lines
@@ -24,7 +24,7 @@ returns-clause-lines g c =
           generator = actor.0;
           hashes = c.in_ok-journal-2.hashes.items;
           keyed = actor.1;
-          updates = subst (λ (t : List ℕ). UpdatesJournal before (drawn actor.0) (chars t) c.args.time (chars c.args.message.now) c.in_ok-journal-2.hashes.items after) text
+          updates = subst (λ (t : List ℕ). UpdatesJournal before (drawn_actor actor.0) (chars t) c.args.time (chars c.args.message.now) c.in_ok-journal-2.hashes.items after) text
               (subst (λ a. UpdatesJournal before a (chars c.in_ok-text.text.now) c.args.time (chars c.args.message.now) c.in_ok-journal-2.hashes.items after) actor.2 c.in_ok-journal-2.ensures.updates);
           spelled = spelled;
         },

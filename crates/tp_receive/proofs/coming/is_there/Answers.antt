@@ -1,4 +1,4 @@
-use Rattle.tp_graph.proofs.PastsLaws.{if_ok-map}
+use Rattle.tp_ancestry.proofs.PastsLaws.{if_ok-map}
 use Rattle.tp_receive.proofs.Common.{◌||◌, refl, ap, sym, ◌∙◌, or_right, has, has_hash}
 use Rattle.tp_receive.proofs.ComingLaws.{has-both}
 use Rattle.tp_receive.proofs.coming.is_there.Goals as goal

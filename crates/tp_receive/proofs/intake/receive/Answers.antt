@@ -1,7 +1,7 @@
 use Rattle.tp_receive.proofs.Common.{◌≡◌, refl, delivery, with_slots, slots, subst, IsHashSetOf, begin, receiver, OutOfMemory, zip}
 use Rattle.tp_receive.proofs.HashLaws.{held_each}
 use Rattle.tp_receive.proofs.TurnLaws.{Stops-then}
-use Rattle.tp_receive.proofs.TakingLaws.{Run-begun, Stops-still, has_stopped, is_space, nothing_done}
+use Rattle.tp_receive.proofs.TakingLaws.{SomeTurns-begun, Stops-still, has_stopped, is_space, nothing_done}
 use Rattle.tp_receive.proofs.intake.receive.Goals as goal
 
 pub returns-in_err-came-clause-outcome : goal.returns-in_err-came-clause-outcome
@@ -32,7 +32,7 @@ returns-in_err-held-clause-outcome g c =
     has_stopped g.K.Keeper.keeps g.K.Keeper.refuses (receiver k C W) K t c.from_residual-in_err-held.result OutOfMemory
     (is_space C W c.pending.result.now K (zip K c.in_ok-slots.slots.marks.items) c.in_ok-slots.slots.reserved c.pending.ensures.pending c.pending.ensures.few marked counted c.if-pending-slots.false)
     (Stops-then g.K.Keeper.keeps g.K.Keeper.refuses (begin k C W K) _ OutOfMemory t
-    (Run-begun g.K.Keeper.keeps k C W K (zip K c.in_ok-slots.slots.marks.items) c.new-reported.result.applied.items c.new-reported.result.refused.items _
+    (SomeTurns-begun g.K.Keeper.keeps k C W K (zip K c.in_ok-slots.slots.marks.items) c.new-reported.result.applied.items c.new-reported.result.refused.items _
     marked c.new-reported.ensures.applied c.new-reported.ensures.refused c.in_ok-take_all.ensures.ok)
     (Stops-still g.K.Keeper.keeps g.K.Keeper.refuses _ t.keeper t.applied t.waiting refl refl refl))
     c.from_residual-in_err-held.ensures.1
@@ -49,7 +49,7 @@ returns-clause-outcome g c =
     let counted : c.in_ok-slots.slots.reserved ≡ slots (zip K c.in_ok-slots.slots.marks.items) = rw c.deref-2.ensures.value at c.in_ok-slots.ensures.reserved in
     record {
       space = is_space C W c.pending.result.now K (zip K c.in_ok-slots.slots.marks.items) c.in_ok-slots.slots.reserved c.pending.ensures.pending c.pending.ensures.few marked counted c.if-pending-slots.false;
-      run = Run-begun g.K.Keeper.keeps k C W K (zip K c.in_ok-slots.slots.marks.items) c.new-reported.result.applied.items c.new-reported.result.refused.items _
+      run = SomeTurns-begun g.K.Keeper.keeps k C W K (zip K c.in_ok-slots.slots.marks.items) c.new-reported.result.applied.items c.new-reported.result.refused.items _
           marked c.new-reported.ensures.applied c.new-reported.ensures.refused c.in_ok-take_all.ensures.ok;
       ends = record { settled = c.in_ok-take_all.ensures.settled; came = refl };
       held = rw c.pending-3.ensures.pending at (c.in_ok-held.ensures K came);

@@ -1,6 +1,6 @@
-use Rattle.tp_receive.proofs.Common.{◌≡◌, ◌+◌, ◌<◌, ◌∷◌, inl, inr, ap, sym, subst, ◌∙◌, arith, drop, length, List, Bool, ChangeParts, Run, Stops, intake, receiver, zip}
-use Rattle.tp_receive.proofs.TurnLaws.{Run-then}
-use Rattle.tp_receive.proofs.ComingLaws.{slots_behind, slots_there, zip_next}
+use Rattle.tp_receive.proofs.Common.{◌≡◌, ◌+◌, ◌<◌, ◌∷◌, inl, inr, ap, sym, subst, ◌∙◌, arith, drop, length, List, Bool, ChangeParts, SomeTurns, Stops, intake, receiver, zip}
+use Rattle.tp_receive.proofs.TurnLaws.{SomeTurns-then}
+use Rattle.tp_receive.proofs.ComingLaws.{slots_after, slots_there, zip_next}
 use Rattle.tp_receive.proofs.TakingLaws.{stops_on}
 use Rattle.tp_receive.proofs.intake.take_all.Goals as goal
 use Rattle.tp_receive.proofs.intake.take_all.Goals.{then-slot, else-slot}
@@ -42,12 +42,12 @@ loop-change-preserved g c =
     let slot = c.index-slot.result.now in
     let within : i < length M = omega (arith, c.loop-change.invariant.long, ap length c.in-Some.ensures.steps.0) in
     let next : zip K (drop i M) ≡ (c.in-Some.change, slot) ∷ zip rest (drop (i + 1) M) = zip_next K rest M i c.in-Some.change slot c.in-Some.ensures.steps.0 within c.index-slot.ensures in
-    let few = slots_behind (zip K (drop i M)) (zip rest (drop (i + 1) M)) c.in-Some.change slot c.loop-change.reserved c.if-slot.reserved c.loop-change.invariant.count next
+    let few = slots_after (zip K (drop i M)) (zip rest (drop (i + 1) M)) c.in-Some.change slot c.loop-change.reserved c.if-slot.reserved c.loop-change.invariant.count next
     (elim c.if-slot.branch [ then-slot w ↦ inl (w.if-slot.true, w.reserved-is) | else-slot w ↦ inr (w.if-slot.false, w.reserved-is) ]) in
     record {
       id = c.take.ensures.id ∙ c.loop-change.invariant.id;
-      run = Run-then g.K.Keeper.keeps _ _ _ c.loop-change.invariant.run
-          (subst (λ (P : List (ChangeParts × Bool)). Run g.K.Keeper.keeps
+      run = SomeTurns-then g.K.Keeper.keeps _ _ _ c.loop-change.invariant.run
+          (subst (λ (P : List (ChangeParts × Bool)). SomeTurns g.K.Keeper.keeps
           (intake c.loop-change.keeper (R.applied c.loop-change.replica) (R.waiting c.loop-change.replica) P c.loop-change.reported.applied.items c.loop-change.reported.refused.items)
           (intake c.take.new.keeper (R.applied c.take.new.replica) (R.waiting c.take.new.replica) (zip rest (drop (i + 1) M)) c.take.new.reported.applied.items c.take.new.reported.refused.items))
           (sym next) (c.in_ok-take.ensures.ok slot (zip rest (drop (i + 1) M)) few));
@@ -67,7 +67,7 @@ returns-in_err-take-clause-err g c =
     let slot = c.index-slot.result.now in
     let within : i < length M = omega (arith, c.loop-change.invariant.long, ap length c.in-Some.ensures.steps.0) in
     let next : zip K (drop i M) ≡ (c.in-Some.change, slot) ∷ zip rest (drop (i + 1) M) = zip_next K rest M i c.in-Some.change slot c.in-Some.ensures.steps.0 within c.index-slot.ensures in
-    let few = slots_behind (zip K (drop i M)) (zip rest (drop (i + 1) M)) c.in-Some.change slot c.loop-change.reserved c.if-slot.reserved c.loop-change.invariant.count next
+    let few = slots_after (zip K (drop i M)) (zip rest (drop (i + 1) M)) c.in-Some.change slot c.loop-change.reserved c.if-slot.reserved c.loop-change.invariant.count next
     (elim c.if-slot.branch [ then-slot w ↦ inl (w.if-slot.true, w.reserved-is) | else-slot w ↦ inr (w.if-slot.false, w.reserved-is) ]) in
     stops_on g.K.Keeper.keeps g.K.Keeper.refuses _ _ c.take.new.keeper (R.applied c.take.new.replica) (R.waiting c.take.new.replica) c.from_residual-in_err-take.result c.in_err-take.field-0.0
     c.loop-change.invariant.run

@@ -1,5 +1,5 @@
 use Rattle.tp_receive.proofs.Common.{◌∙◌}
-use Rattle.tp_receive.proofs.TurnLaws.{Run-one, Run-then}
+use Rattle.tp_receive.proofs.TurnLaws.{SomeTurns-one, SomeTurns-then}
 use Rattle.tp_receive.proofs.TakingLaws.{stops_on}
 use Rattle.tp_receive.proofs.settle.settle.Goals as goal
 
@@ -8,7 +8,7 @@ loop-i-preserved g c = record {
   id = c.settle_next.ensures.id ∙ c.loop-i.invariant.id;
   knows = c.in_ok-known.ensures.knows;
   waits = c.in_ok-known.ensures.waits;
-  run = λ P. Run-then g.K.Keeper.keeps _ _ _ (c.loop-i.invariant.run P) (Run-one g.K.Keeper.keeps _ _ (c.in_ok-known.ensures.ok P));
+  run = λ P. SomeTurns-then g.K.Keeper.keeps _ _ _ (c.loop-i.invariant.run P) (SomeTurns-one g.K.Keeper.keeps _ _ (c.in_ok-known.ensures.ok P));
 }
 
 pub returns-in_err-known-clause-err : goal.returns-in_err-known-clause-err

@@ -1,5 +1,5 @@
 use Rattle.tp_receive.proofs.Common.{ap, sym, subst, ◌∙◌, Hash, hash_of, GainsOnly, slice_get-there}
-use Rattle.tp_receive.proofs.LackingLaws.{entry_within, knows_behind, read_at}
+use Rattle.tp_receive.proofs.LackingLaws.{entry_within, knows_after, read_at}
 use Rattle.tp_receive.proofs.settle.settle_next.Goals as goal
 
 pub remove-requires : goal.remove-requires
@@ -16,7 +16,7 @@ returns-clause-knows g c =
     let same = read_at c.pending.result.now W c.args.i c.index-pending-i.result there.0 c.pending.ensures.pending c.index-pending-i.is there.1 in
     let is = c.hash-hash.ensures.hash ∙ ap hash_of same in
     c.forget_lacked.ensures.knows C D V (subst (λ (x : Hash). GainsOnly C D x) (sym is) (c.in_ok-settle_one.ensures.gains there.0 there.1))
-    (knows_behind C W V c.args.lacking.now c.remove.new.self c.args.i there.0 c.hash-hash.result c.pending.ensures.once there.1 is c.requires.knows c.in_ok-settle_one.ensures.out c.remove.ensures)
+    (knows_after C W V c.args.lacking.now c.remove.new.self c.args.i there.0 c.hash-hash.result c.pending.ensures.once there.1 is c.requires.knows c.in_ok-settle_one.ensures.out c.remove.ensures)
 
 pub returns-clause-waits : goal.returns-clause-waits
 returns-clause-waits g c = c.forget_lacked.ensures.waits (g.R.Replica.applied c.settle_one.new.replica) (g.R.Replica.waiting c.settle_one.new.replica) (returns-clause-knows g c)

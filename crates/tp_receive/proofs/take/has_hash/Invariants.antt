@@ -1,5 +1,5 @@
 use Rattle.tp_receive.proofs.Common.{◌≡◌, drop}
-use Rattle.tp_graph.specs.Named as named
+use Rattle.tp_history.specs.Named as named
 use Rattle.tp_receive.proofs.take.has_hash.Given as goal
 
 abbrev pub invariant-loop-change : goal.invariant-loop-change

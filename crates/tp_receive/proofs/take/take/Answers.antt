@@ -1,5 +1,5 @@
 use Rattle.tp_receive.proofs.Common.{inr, List, ◌∷◌, ◌∙◌, subst, sym, Hash, ChangeParts, hash_of, intake, GainsOnly, KnowsApart, KnowsLack, Lacks, AllZip-long}
-use Rattle.tp_receive.proofs.TurnLaws.{Run-none, Run-one, Run-turn}
+use Rattle.tp_receive.proofs.TurnLaws.{SomeTurns-none, SomeTurns-one, SomeTurns-turn}
 use Rattle.tp_receive.proofs.TakingLaws.{OnOk-map, came, meets_entered, meets_refused, meets_held, next_comes, Stops-trying, stops_later, stops_on, turn_unreported, wait_held}
 use Rattle.tp_receive.proofs.LackingLaws.{gains_last}
 use Rattle.tp_receive.proofs.take.take.Goals as goal
@@ -14,7 +14,7 @@ returns-in_err-admit-clause-err g c slot P few =
     let r = c.args.reported.now.refused.items in
     let begun = intake k C W ((c.args.change, slot) ∷ P) t r in
     stops_on g.K.Keeper.keeps g.K.Keeper.refuses begun begun c.admit.new.keeper (R.applied c.admit.new.replica) (R.waiting c.admit.new.replica) c.from_residual.result c.in_err-admit.field-0.0
-    (Run-none g.K.Keeper.keeps begun)
+    (SomeTurns-none g.K.Keeper.keeps begun)
     (Stops-trying g.K.Keeper.keeps g.K.Keeper.refuses begun c.args.change (intake k C W P t r) c.in_err-admit.field-0.0 c.admit.new.keeper (R.applied c.admit.new.replica) (R.waiting c.admit.new.replica)
     (inr (next_comes k C W P t r c.args.change slot c.requires.settled)) c.in_err-admit.ensures.stays c.admit.ensures.waiting c.in_err-admit.ensures.err)
     c.from_residual.ensures.1
@@ -23,7 +23,7 @@ pub returns-in-Entered-clause-ok : goal.returns-in-Entered-clause-ok
 returns-in-Entered-clause-ok g c slot P few =
     let R = g.R.Replica in
     OnOk-map c.settle.result
-    (λ run. Run-turn g.K.Keeper.keeps _ _ _
+    (λ run. SomeTurns-turn g.K.Keeper.keeps _ _ _
     (came g.K.Keeper.keeps c.args.keeper.now c.admit.new.keeper c.args.change slot (R.applied c.args.replica.now) (R.applied c.admit.new.replica) (R.waiting c.args.replica.now) (R.waiting c.admit.new.replica) P
     c.args.reported.now.applied.items c.admit.new.reported.applied.items c.args.reported.now.refused.items c.admit.new.reported.refused.items c.requires.settled
     (meets_entered g.K.Keeper.keeps c.args.keeper.now c.admit.new.keeper c.args.change (R.applied c.args.replica.now) (R.applied c.admit.new.replica) (R.waiting c.args.replica.now) (R.waiting c.admit.new.replica) P
@@ -35,7 +35,7 @@ pub returns-in-Entered-clause-err : goal.returns-in-Entered-clause-err
 returns-in-Entered-clause-err g c slot P few =
     let R = g.R.Replica in
     stops_later g.K.Keeper.keeps g.K.Keeper.refuses _ _ c.settle.new.keeper (R.applied c.settle.new.replica) (R.waiting c.settle.new.replica) c.settle.result
-    (Run-one g.K.Keeper.keeps _ _
+    (SomeTurns-one g.K.Keeper.keeps _ _
     (came g.K.Keeper.keeps c.args.keeper.now c.admit.new.keeper c.args.change slot (R.applied c.args.replica.now) (R.applied c.admit.new.replica) (R.waiting c.args.replica.now) (R.waiting c.admit.new.replica) P
     c.args.reported.now.applied.items c.admit.new.reported.applied.items c.args.reported.now.refused.items c.admit.new.reported.refused.items c.requires.settled
     (meets_entered g.K.Keeper.keeps c.args.keeper.now c.admit.new.keeper c.args.change (R.applied c.args.replica.now) (R.applied c.admit.new.replica) (R.waiting c.args.replica.now) (R.waiting c.admit.new.replica) P
@@ -45,7 +45,7 @@ returns-in-Entered-clause-err g c slot P few =
 pub returns-in-Refused-clause-ok : goal.returns-in-Refused-clause-ok
 returns-in-Refused-clause-ok g c slot P few =
     let R = g.R.Replica in
-    Run-one g.K.Keeper.keeps _ _
+    SomeTurns-one g.K.Keeper.keeps _ _
     (came g.K.Keeper.keeps c.args.keeper.now c.admit.new.keeper c.args.change slot (R.applied c.args.replica.now) (R.applied c.admit.new.replica) (R.waiting c.args.replica.now) (R.waiting c.admit.new.replica) P
     c.args.reported.now.applied.items c.admit.new.reported.applied.items c.args.reported.now.refused.items c.admit.new.reported.refused.items c.requires.settled
     (meets_refused g.K.Keeper.keeps c.args.keeper.now c.admit.new.keeper c.args.change (R.applied c.args.replica.now) (R.applied c.admit.new.replica) (R.waiting c.args.replica.now) (R.waiting c.admit.new.replica) P
@@ -55,7 +55,7 @@ pub returns-in-Waits-clause-ok : goal.returns-in-Waits-clause-ok
 returns-in-Waits-clause-ok g c slot P few =
     let R = g.R.Replica in
     OnOk-map c.let_wait.result
-    (λ held. Run-one g.K.Keeper.keeps _ _
+    (λ held. SomeTurns-one g.K.Keeper.keeps _ _
     (came g.K.Keeper.keeps c.args.keeper.now c.admit.new.keeper c.args.change slot (R.applied c.args.replica.now) (R.applied c.let_wait.new.replica) (R.waiting c.args.replica.now) (R.waiting c.let_wait.new.replica) P
     c.args.reported.now.applied.items c.let_wait.new.reported.applied.items c.args.reported.now.refused.items c.let_wait.new.reported.refused.items c.requires.settled
     (meets_held g.K.Keeper.keeps c.args.keeper.now c.admit.new.keeper c.args.change c.in-Waits.change c.args.reserved (R.applied c.args.replica.now) (R.applied c.admit.new.replica) (R.applied c.let_wait.new.replica)

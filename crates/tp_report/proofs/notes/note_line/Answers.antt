@@ -1,7 +1,7 @@
 use Rattle.std.proofs.Common.{◌≡◌, ◌∙◌, ◌++◌, ℕ, Bool, true, List, codes, subst, sym}
 use Rattle.std.specs.String.{string_bytes}
-use Rattle.tp_commands.specs.Reading.{line}
 use Rattle.tp_report.specs.Notes.{IsNoteOf, names_file, fault_place}
+use Rattle.tp_list.specs.Bytes.{line}
 use Rattle.tp_report.proofs.TellLaws as laws
 use Rattle.tp_report.proofs.notes.note_line.Goals as goal
 

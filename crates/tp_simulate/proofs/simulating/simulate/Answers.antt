@@ -1,7 +1,7 @@
 use Rattle.std.proofs.Common.{◌≡◌, inl, inr, subst}
 use Rattle.std.proofs.KnownBytes.{Keeps-refl}
 use Rattle.tp_simulate.specs.declared.error.SimError.TheVariants as refusal
-use Rattle.tp_simulate.specs.SimError.{IsOutside}
+use Rattle.tp_simulate.specs.SimError.{IsOutsideError}
 use Rattle.tp_simulate.proofs.ScriptLaws.{finished_part, finished_prints, going_begins, going_ended, going_line_part, going_more, going_part, going_stops, no_line}
 use Rattle.tp_simulate.proofs.simulating.simulate.Goals as goal
 
@@ -36,10 +36,10 @@ returns-in-Err-clause-line g c k is =
     let same : c.in-Err.error ≡ refusal.Line k = cc in
     elim c.in-Err.ensures.err [
       | inl kept ↦ elim kept.0 [
-        | inl outside ↦ absurd (no_line k (subst IsOutside same outside))
+        | inl outside ↦ absurd (no_line k (subst IsOutsideError same outside))
         | inr at ↦ going_stops c.loop-number.number k _ _ _ _ _ c.loop-number.invariant kept.1 cc
       ]
-      | inr p ↦ absurd (no_line k (subst IsOutside same p.0))
+      | inr p ↦ absurd (no_line k (subst IsOutsideError same p.0))
     ]
 
 pub returns-clause-part : goal.returns-clause-part

@@ -2,7 +2,7 @@ use Rattle.std.proofs.Common.{◌≡◌, ◌+◌, [], ◌∷◌, ◌++◌, lengt
 use Rattle.std.proofs.lemmas.Result.{err_from_is_err_and}
 use Rattle.tp_codec.proofs.Loops.{goes_on, ends, is_done}
 use Rattle.tp_codec.specs.Reading.{repeat_at}
-use Rattle.tp_store.specs.Loading.{piece_at, behind}
+use Rattle.tp_store.specs.Loading.{piece_at, offset_after}
 use Rattle.tp_store.proofs.layout.skip_pieces.Goals as goal
 
 pub returns-in_err-piece : goal.returns-in_err-piece
@@ -10,7 +10,7 @@ returns-in_err-piece c =
     let p = err_from_is_err_and c.from_residual.result c.from_residual.ensures.1 in
     let read = c.loop.invariant.read in
     rw (p.1, p.2)
-    (ends piece_at behind read.0 c.args.count c.loop.counter c.loop.at c.loop.reader c.in_err-piece.field-0.0 (repeat_at piece_at behind c.args.count 28 c.args.reader.now) c.loop-test.true c.in_err-piece.ensures.piece read.2)
+    (ends piece_at offset_after read.0 c.args.count c.loop.counter c.loop.at c.loop.reader c.in_err-piece.field-0.0 (repeat_at piece_at offset_after c.args.count 28 c.args.reader.now) c.loop-test.true c.in_err-piece.ensures.piece read.2)
 
 pub loop-preserved : goal.loop-preserved
 loop-preserved c =
@@ -24,7 +24,7 @@ loop-preserved c =
       read = (
         read.0 ++ piece ∷ [],
         omega arith,
-        goes_on piece_at behind read.0 c.args.count c.loop.counter c.loop.at c.loop.reader piece c.piece_of.new.reader (repeat_at piece_at behind c.args.count 28 c.args.reader.now) c.loop-test.true c.in_ok-piece.ensures.piece read.2,
+        goes_on piece_at offset_after read.0 c.args.count c.loop.counter c.loop.at c.loop.reader piece c.piece_of.new.reader (repeat_at piece_at offset_after c.args.count 28 c.args.reader.now) c.loop-test.true c.in_ok-piece.ensures.piece read.2,
       );
       place = omega arith;
     }
@@ -34,6 +34,6 @@ returns c =
     let read = c.loop.invariant.read in
     let size = read.1 in (
       (read.0, c.loop.reader),
-      is_done piece_at behind read.0 c.args.count c.loop.counter c.loop.at c.loop.reader (repeat_at piece_at behind c.args.count 28 c.args.reader.now) c.loop-test.false read.2,
+      is_done piece_at offset_after read.0 c.args.count c.loop.counter c.loop.at c.loop.reader (repeat_at piece_at offset_after c.args.count 28 c.args.reader.now) c.loop-test.false read.2,
       (omega arith, refl),
     )

@@ -1,9 +1,10 @@
 use Rattle.std.proofs.Common.{◌≡◌, ◌-◌, refl, sym, ap, ◌∙◌, arith}
 use Rattle.std.proofs.lemmas.Result.{err_from_is_err_and}
 use Rattle.tp_codec.specs.Reading.{repeat_at}
-use Rattle.tp_store.specs.Loading.{piece_at, behind, grown, entered}
+use Rattle.tp_store.specs.declared.error.StoreError.TheVariants.{OutOfMemory}
+use Rattle.tp_store.specs.Loading.{piece_at, offset_after, with_piece, with_pieces}
 use Rattle.tp_store.proofs.PieceSteps.{one_read, none_bad, none_left, entered_on, entered_bad, entered_done}
-use Rattle.tp_store.proofs.Refusals.{fails_on}
+use Rattle.tp_codec.proofs.Refusals.{fails_on}
 use Rattle.tp_store.proofs.loading.enter_pieces.Goals as goal
 
 pub loop-init : goal.loop-init
@@ -13,7 +14,7 @@ loop-init g c =
       id = refl;
       waiting = refl;
       place = refl;
-      left = λ pieces rest e. (pieces, ap (λ n. repeat_at piece_at behind n 28 c.args.reader.now) all ∙ e, refl);
+      left = λ pieces rest e. (pieces, ap (λ n. repeat_at piece_at offset_after n 28 c.args.reader.now) all ∙ e, refl);
     }
 
 pub returns-in_err-piece-clause-entered : goal.returns-in_err-piece-clause-entered
@@ -30,7 +31,7 @@ returns-in_err-enter_piece-clause-entered g c pieces rest e =
     let fault = c.in_err-enter_piece.field-0.0 in
     let read = one_read c.args.count c.loop.counter c.loop.at c.loop.reader piece c.piece_of.new.reader left.0 rest c.loop-test.true c.in_ok-piece.ensures.piece left.1 in
     rw (p.1, p.2)
-    (fails_on fault (grown c.loop.at C piece) (entered 28 c.args.document.now.applied pieces)
+    (fails_on OutOfMemory fault (with_piece c.loop.at C piece) (with_pieces 28 c.args.document.now.applied pieces)
     (λ bad. sym left.2 ∙ entered_bad c.loop.at C piece left.0 read.0 fault read.1 bad) c.in_err-enter_piece.ensures.grown)
 
 pub loop-preserved : goal.loop-preserved

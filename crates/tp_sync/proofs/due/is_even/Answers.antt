@@ -3,8 +3,8 @@ use Rattle.tp_sync.proofs.LoadLaws.{even_is, not_any}
 use Rattle.tp_sync.proofs.due.is_even.Goals as goal
 
 pub returns-then-are : goal.returns-then-are
-returns-then-are g c =
-    let C : List ChangeParts = c.args.document.now.applied in
+returns-then-are c =
+    let C : List ChangeParts = c.args.graph.now.applied in
     let s : SyncParts = c.args.state.now in
     let same : s.theirs ≡ Some (heads C) = sym (ap (λ (t : SyncParts). t.theirs) c.state.view_is) ∙ c.are.ensures.0 c.if-are.true ∙ ap Some c.heads.ensures in
     let any : c.has_any.result ≡ list_any (λ (h : Hash). has C h) s.wants =

@@ -1,4 +1,4 @@
-use Rattle.tp_sync.proofs.Common.{◌≡◌, ◌∙◌, sym, SyncError, Stops, OtherDocument, same_doc-apart, same_doc-same}
+use Rattle.tp_sync.proofs.Common.{◌≡◌, ◌∙◌, sym, SyncError, ExchangeStops, OtherDocument, same_doc-apart, same_doc-same}
 use Rattle.tp_sync.proofs.ExchangeLaws.{if_err, only_other, stops_not_other}
 use Rattle.tp_sync.proofs.exchanging.exchange.Goals as goal
 
@@ -9,5 +9,5 @@ pub returns-clause-other : goal.returns-clause-other
 returns-clause-other g c =
     only_other c.exchange_from.result c.args.a.now.id c.args.b.now.id
     (sym c.id.ensures ∙ same_doc-same c.id.result c.id-2.result (sym c.is.ensures ∙ c.if-not-is.false) ∙ c.id-2.ensures)
-    (if_err (λ (e : SyncError). Stops c.args.a.now c.args.b.now c.exchange_from.new.a c.exchange_from.new.b e) (λ (e : SyncError). e ≡ OtherDocument → ⊥) c.exchange_from.result
+    (if_err (λ (e : SyncError). ExchangeStops c.args.a.now c.args.b.now c.exchange_from.new.a c.exchange_from.new.b e) (λ (e : SyncError). e ≡ OtherDocument → ⊥) c.exchange_from.result
     (stops_not_other c.args.a.now c.args.b.now c.exchange_from.new.a c.exchange_from.new.b) c.exchange_from.ensures.err)

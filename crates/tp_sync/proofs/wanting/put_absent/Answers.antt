@@ -4,9 +4,9 @@ use Rattle.tp_sync.proofs.wanting.put_absent.Goals.{then-is_absent+in_ok-put, el
 use Rattle.tp_sync.proofs.wanting.put_absent.Goals as goal
 
 pub loop-hash-preserved : goal.loop-hash-preserved
-loop-hash-preserved g c =
-    let C = c.args.document.now.applied in
-    let W = c.args.document.now.waiting in
+loop-hash-preserved c =
+    let C = c.args.graph.now.applied in
+    let W = c.args.graph.now.waiting in
     elim c.if-is_absent.branch [
       | then-is_absent+in_ok-put w ↦
           HasPut-more C W c.args.found.now.items c.args.hashes.now c.loop-hash.hash-index _ c.loop-hash.found.items c.if-is_absent.found.items c.loop-hash-test.true c.loop-hash.invariant

@@ -1,6 +1,6 @@
 use Rattle.std.proofs.Common.{List}
-use Rattle.tp_change.specs.declared.parts.ChangeParts.{ChangeParts}
-use Rattle.tp_textpeer.specs.Log.{Stands}
+use Rattle.tp_layout.specs.declared.parts.ChangeParts.{ChangeParts}
+use Rattle.tp_textpeer.specs.Log.{IsAfterLog}
 use Rattle.tp_textpeer.specs.Chain.{Remembers, AllBelowCounter}
 use Rattle.tp_textpeer.proofs.showing.read_log.Given as goal
 
@@ -11,6 +11,6 @@ invariant-loop-count g l =
     let removals = g.S.Sequence.removals l.chain.sequence in
     record {
       below : AllBelowCounter placed l.chain.next;
-      log : (C : List ChangeParts) × Stands (g.R.Read.remaining l.fn.reader) (g.R.Read.remaining l.reader) l.count C
+      log : (C : List ChangeParts) × IsAfterLog (g.R.Read.remaining l.fn.reader) (g.R.Read.remaining l.reader) l.count C
           × Remembers C placed removals l.chain.author l.chain.last l.chain.next;
     }

@@ -7,8 +7,8 @@ pub returns-in-Ok-Complete-clause-head : goal.returns-in-Ok-Complete-clause-head
 returns-in-Ok-Complete-clause-head c = λ head rest reads few.
     let held : HoldsSomeRequest c.args.bytes.now c.parse.new.self c.in-Ok-Complete.field-0-0 = search rules in
     wanted_by_parsed c.args.site.now c.args.bytes.now c.parse.new.self c.in-Ok-Complete.field-0-0
-    c.unwrap_or.result c.unwrap_or-in-Ok-Complete.result _ _ c.wanted.result
-    held c.unwrap_or.ensures c.unwrap_or-in-Ok-Complete.ensures c.wanted.ensures head rest reads
+    c.unwrap_or.result c.unwrap_or-in-Ok-Complete.result _ _ c.classify.result
+    held c.unwrap_or.ensures c.unwrap_or-in-Ok-Complete.ensures c.classify.ensures head rest reads
 
 pub returns-in-Ok-Complete-clause-only : goal.returns-in-Ok-Complete-clause-only
 returns-in-Ok-Complete-clause-only c =
@@ -18,6 +18,6 @@ returns-in-Ok-Complete-clause-only c =
       _,
       held.1.reads,
       wanted_by_parsed c.args.site.now c.args.bytes.now c.parse.new.self c.in-Ok-Complete.field-0-0
-          c.unwrap_or.result c.unwrap_or-in-Ok-Complete.result _ _ c.wanted.result
-          held c.unwrap_or.ensures c.unwrap_or-in-Ok-Complete.ensures c.wanted.ensures held.0 _ held.1.reads,
+          c.unwrap_or.result c.unwrap_or-in-Ok-Complete.result _ _ c.classify.result
+          held c.unwrap_or.ensures c.unwrap_or-in-Ok-Complete.ensures c.classify.ensures held.0 _ held.1.reads,
     )

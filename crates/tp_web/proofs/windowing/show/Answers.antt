@@ -1,5 +1,5 @@
 use Rattle.std.proofs.Common.{subst, sym}
-use Rattle.tp_served.specs.Seats.{SeatData}
+use Rattle.tp_served.specs.Seats.{SeatState}
 use Rattle.tp_web.specs.Visiting.{Attends}
 use Rattle.tp_web.proofs.Attending.{joins}
 use Rattle.tp_web.proofs.windowing.show.Goals as goal
@@ -7,9 +7,9 @@ use Rattle.tp_web.proofs.windowing.show.Goals.{in-None, in-Some+then-not-answer_
 
 pub returns : goal.returns
 returns g c =
-    let before : SeatData = c.args.seat.now in
+    let before : SeatState = c.args.seat.now in
     elim c.match-next.branch [
-      | in-None w ↦ subst (λ (s : SeatData). Attends before s) (sym w.seat-is) c.loop.invariant.attends
+      | in-None w ↦ subst (λ (s : SeatState). Attends before s) (sym w.seat-is) c.loop.invariant.attends
       | in-Some+then-not-answer_next w ↦
-          subst (λ (s : SeatData). Attends before s) (sym w.seat-is) (joins before c.loop.seat w.answer_next.new.seat c.loop.invariant.attends w.answer_next.ensures)
+          subst (λ (s : SeatState). Attends before s) (sym w.seat-is) (joins before c.loop.seat w.answer_next.new.seat c.loop.invariant.attends w.answer_next.ensures)
     ]

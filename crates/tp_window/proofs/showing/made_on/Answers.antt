@@ -1,7 +1,7 @@
 use Rattle.std.proofs.Common.{arith, false, refl, subst, true, sym, ap, ◌≡◌, ◌∙◌, ◌≤◌, ◌+◌, ◌∷◌, ◌++◌, [], length, take, List, Some, Option}
 use Rattle.std.specs.Prelude.{IsTrue}
 use Rattle.std.proofs.lemmas.List.{take_more, take_all}
-use Rattle.tp_change.specs.declared.parts.ChangeParts.{ChangeParts}
+use Rattle.tp_layout.specs.declared.parts.ChangeParts.{ChangeParts}
 use Rattle.tp_opid.specs.declared.hash.Hash.{Hash}
 use Rattle.tp_window.specs.Windows.{MadeOn}
 use Rattle.tp_window.proofs.MadeLaws.{made_before, made_here}

@@ -1,5 +1,4 @@
-use Rattle.tp_world.proofs.Common.{◌++◌, ◌∷◌, [], sym, ap, ◌∙◌, arith}
-use Rattle.tp_rga.proofs.Walking.{seen_within}
+use Rattle.tp_world.proofs.Common.{◌++◌, ◌∷◌, [], sym, ap, ◌∙◌, arith, seen_within}
 use Rattle.tp_world.proofs.OrderLaws.{pairs_all, pairs_more}
 use Rattle.tp_world.proofs.ordering.elements_of.Goals as goal
 

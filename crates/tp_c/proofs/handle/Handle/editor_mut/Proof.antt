@@ -28,7 +28,7 @@ use Rattle.std.proofs.raw_atomic.Walks.{proved}
 use Rattle.std.proofs.VecSteps.Shapes.{after}
 use Rattle.std.specs.contracts.impls.GlobalAllocator.TheImpl.{ghosts}
 use Rattle.tp_editor.specs.EditorState.{EditorState}
-use Rattle.tp_c.specs.Owned.{owned, editor_row as T}
+use Rattle.tp_c.specs.Owned.{editor_owned, editor_row as T}
 use Rattle.tp_c.specs.Lends.{with_editor}
 use Rattle.tp_c.specs.declared.handle.Handle.{Handle}
 use Rattle.tp_c.specs.contracts.handle.Handle.{the_row as R, the_type as handle_type}
@@ -49,7 +49,7 @@ module _ {M : Type 1} {𝓤 : Ura M} (𝓛 : Logic 𝓤) (h : Handle) (us : List
   unfolding part_of
   back e w =
       qed 𝓛 (‵ (part_at T full_share w b o) ∷ ‵ Rest ∷ []) ∵ move ! (1 ∷ []) $ fsplit ! $ move ! (2 ∷ 0 ∷ []) $ fjoin ! $
-      rewrite ! 0 (λ (p : Ptr). ‵ (owned h.alloc p w)) (sym e) refl $ move ! (1 ∷ []) $ fsplit ! $ move ! (0 ∷ 2 ∷ []) $ fjoin ! $ move ! (1 ∷ 0 ∷ []) $ fjoin ! $
+      rewrite ! 0 (λ (p : Ptr). ‵ (editor_owned h.alloc p w)) (sym e) refl $ move ! (1 ∷ []) $ fsplit ! $ move ! (0 ∷ 2 ∷ []) $ fjoin ! $ move ! (1 ∷ 0 ∷ []) $ fjoin ! $
       fpack ! (List Val) (λ vs. fsep (cell_at full_share R.mir vs rb ro) (R.own_val (with_editor h w) vs)) us $ done !
 
 pub editor_mut_spec : {M : Type 1} → statement M
@@ -65,7 +65,7 @@ editor_mut_spec 𝓤 𝓛 𝓜 𝓡 wired =
     enter ! _ _ _ _ _ $ alloc_all ! (λ l. pass_all ! refl ((tt, tt), tt) $
     fsplit3 ! $ move ! (1 ∷ 2 ∷ 3 ∷ []) $ opens ! tt R rb ro (λ us.
     move ! (1 ∷ []) $ peeks ! R _ (shows 𝓛 R) h us (λ is. fsplit ! $ move ! (1 ∷ []) $
-    in_a_block ! h.at (λ p. owned h.alloc p h.editor) (fst∗ 𝓤 (never 𝓤) (sem 𝓛 (ghosts.dealloc_token h.alloc (bare (lone T.mir)) null_ptr))) (λ b o e. fsplit ! $
+    in_a_block ! h.at (λ p. editor_owned h.alloc p h.editor) (fst∗ 𝓤 (never 𝓤) (sem 𝓛 (ghosts.dealloc_token h.alloc (bare (lone T.mir)) null_ptr))) (λ b o e. fsplit ! $
     -- [the editor; the right to free it; the fields; the cell of the handle; the open borrow, in three entries]
     let word = lowers.val_is h us is ∙ ap (λ (p : Ptr). lowers.lowered (record h { at = p }) ∷ []) e in
     let Cell = λ (ws : List Val). ‵ (cell_at full_share R.mir ws rb ro) in

@@ -13,7 +13,7 @@ pub loop-i-init : goal.loop-i-init
 unfolding digest_bytes
 loop-i-init c = record { long = refl; known = refl }
 
--- the bytes before the word's are kept, and behind them stand the word's four
+-- the bytes before the word's are kept, and after them are the word's four
 pub loop-i-preserved : goal.loop-i-preserved
 loop-i-preserved c =
     let four : length c.copy_from_slice.new.self ≡ 4 = search rules in

@@ -1,30 +1,13 @@
 use Rattle.tp_document.proofs.Common.{subst, past, DocState}
-use Rattle.tp_document.specs.Differences.{AreDifferences, LeadsTo}
-use Rattle.tp_document.proofs.VisibleLaws.{are_of, since_is, since_leads}
+use Rattle.tp_snapshot.specs.Differences.{AreDifferences, LeadsTo}
 use Rattle.tp_document.proofs.document.Document.differences_since.Goals as goal
 
 pub returns-clause-each : goal.returns-clause-each
 returns-clause-each g c =
-    let S = g.S.Sequence in
-    let d = c.self.inside in
-    let C = d.graph.applied in
-    let L = S.placed d.sequence in
-    let H = c.args.heads.now in
-    let ds = c.in_ok-found.found.items in
-    subst (λ (d : DocState). AreDifferences d.applied (past d.applied H) d.applied ds) c.self.view_is
-    (are_of C (past C H) C L ds c.self.invariant.order
-    (since_is C L (S.removals d.sequence) H c.in_ok-old.old c.in_ok-clock.clock c.in_ok-reach.reach c.window-window.result ds c.self.invariant
-    c.in_ok-old.ensures.clock c.in_ok-clock.ensures.clock c.in_ok-reach.ensures.has c.window-window.ensures.window c.window-window.ensures.has c.in_ok-found.ensures))
+    subst (λ (d : DocState). AreDifferences d.applied (past d.applied c.args.heads.now) d.applied c.in_ok-differences_since.field-0.items) c.self.view_is
+    c.in_ok-differences_since.ensures.each
 
 pub returns-clause-leads : goal.returns-clause-leads
 returns-clause-leads g c =
-    let S = g.S.Sequence in
-    let d = c.self.inside in
-    let C = d.graph.applied in
-    let L = S.placed d.sequence in
-    let H = c.args.heads.now in
-    let ds = c.in_ok-found.found.items in
-    subst (λ (d : DocState). LeadsTo (past d.applied H) d.applied ds) c.self.view_is
-    (since_leads C L (S.removals d.sequence) H c.in_ok-clock.clock ds c.self.invariant c.in_ok-clock.ensures.clock
-    (since_is C L (S.removals d.sequence) H c.in_ok-old.old c.in_ok-clock.clock c.in_ok-reach.reach c.window-window.result ds c.self.invariant
-    c.in_ok-old.ensures.clock c.in_ok-clock.ensures.clock c.in_ok-reach.ensures.has c.window-window.ensures.window c.window-window.ensures.has c.in_ok-found.ensures))
+    subst (λ (d : DocState). LeadsTo (past d.applied c.args.heads.now) d.applied c.in_ok-differences_since.field-0.items) c.self.view_is
+    c.in_ok-differences_since.ensures.leads

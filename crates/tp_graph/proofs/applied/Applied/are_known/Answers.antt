@@ -1,4 +1,4 @@
-use Rattle.tp_graph.proofs.Common.{◌∙◌, ◌+◌, ◌-◌, ◌&&◌, ◌++◌, sym, ap, id_of, ops_from, picked}
+use Rattle.tp_graph.proofs.Common.{◌∙◌, ◌+◌, ◌-◌, ◌&&◌, ◌++◌, sym, ap, id_of, ops_from, past_changes}
 use Rattle.tp_change.specs.Elements as made
 use Rattle.tp_graph.specs.Covers as cover
 use Rattle.tp_graph.proofs.InsertLaws.{all_inserted-step, all_inserted-first, all_inserted-end}
@@ -6,11 +6,11 @@ use Rattle.tp_graph.proofs.applied.Applied.are_known.Goals as goal
 
 pub loop-i-init : goal.loop-i-init
 loop-i-init c = λ rs h.
-    all_inserted-first (made.inserts_in (ops_from c.args.before.now.actor c.args.before.now.first rs) ++ made.inserts (picked c.args.part.now c.args.self.now.changes)) c.args.first.now c.args.count
+    all_inserted-first (made.inserts_in (ops_from c.args.before.now.actor c.args.before.now.first rs) ++ made.inserts (past_changes c.args.past_set.now c.args.self.now.changes)) c.args.first.now c.args.count
 
 pub loop-i-preserved : goal.loop-i-preserved
 loop-i-preserved c = λ rs h.
-    let S = made.inserts_in (ops_from c.args.before.now.actor c.args.before.now.first rs) ++ made.inserts (picked c.args.part.now c.args.self.now.changes) in
+    let S = made.inserts_in (ops_from c.args.before.now.actor c.args.before.now.first rs) ++ made.inserts (past_changes c.args.past_set.now c.args.self.now.changes) in
     let first = c.args.first.now in
     let i = c.loop-i.i in
     let count = c.args.count in
@@ -21,7 +21,7 @@ loop-i-preserved c = λ rs h.
 
 pub returns-then-not-is_known : goal.returns-then-not-is_known
 returns-then-not-is_known c = λ rs h.
-    let S = made.inserts_in (ops_from c.args.before.now.actor c.args.before.now.first rs) ++ made.inserts (picked c.args.part.now c.args.self.now.changes) in
+    let S = made.inserts_in (ops_from c.args.before.now.actor c.args.before.now.first rs) ++ made.inserts (past_changes c.args.past_set.now c.args.self.now.changes) in
     let first = c.args.first.now in
     let i = c.loop-i.i in
     let count = c.args.count in
@@ -32,5 +32,5 @@ returns-then-not-is_known c = λ rs h.
 
 pub returns : goal.returns
 returns c = λ rs h.
-    sym (all_inserted-end (made.inserts_in (ops_from c.args.before.now.actor c.args.before.now.first rs) ++ made.inserts (picked c.args.part.now c.args.self.now.changes)) c.args.first.now c.args.count c.loop-i.i c.loop-i-test.false)
+    sym (all_inserted-end (made.inserts_in (ops_from c.args.before.now.actor c.args.before.now.first rs) ++ made.inserts (past_changes c.args.past_set.now c.args.self.now.changes)) c.args.first.now c.args.count c.loop-i.i c.loop-i-test.false)
     ∙ c.loop-i.invariant rs h

@@ -1,6 +1,6 @@
 use Rattle.tp_graph.proofs.Common.{◌≡◌, ◌∙◌}
-use Rattle.tp_graph.specs.Fit as fit
-use Rattle.tp_graph.proofs.CountLaws.{clashes-reached}
+use Rattle.tp_history.specs.Fit as fit
+use Rattle.tp_history.proofs.CountLaws.{clashes-reached}
 use Rattle.tp_graph.proofs.applied.Applied.clashes.Goals as goal
 
 pub returns : goal.returns

@@ -1,4 +1,4 @@
-use Rattle.tp_graph.proofs.Common.{◌≡◌, ◌≤◌, ◌+◌, ◌++◌, ◌∷◌, ◌∙◌, ap, sym, refl, subst, arith, false, take, length, [], AllByRecursion, IsRecord, count_in, count_of, Marks, picked}
+use Rattle.tp_graph.proofs.Common.{◌≡◌, ◌≤◌, ◌+◌, ◌++◌, ◌∷◌, ◌∙◌, ap, sym, refl, subst, arith, false, take, length, [], AllByRecursion, IsRecord, count_in, count_of, Marks, past_changes}
 use Rattle.tp_change.specs.Elements as made
 use Rattle.tp_change.specs.Operations.{op_count}
 use Rattle.tp_graph.specs.Covers as cover
@@ -36,7 +36,7 @@ put-count-requires c =
 
 pub returns-then-not-is_there : goal.returns-then-not-is_there
 returns-then-not-is_there c =
-    let S = made.inserts (picked c.args.part.now c.args.self.now.changes) in
+    let S = made.inserts (past_changes c.args.past_set.now c.args.self.now.changes) in
     let no : c.is_there.result ≡ false = c.if-not-is_there.true in
     sym (refers-all_there S c.args.change.now c.hash-hash.ensures.limits
     ∙ ap (λ r. cover.all_there c.args.change.now.actor c.args.change.now.start S [] r) (sym c.records-records.ensures)
@@ -48,7 +48,7 @@ returns-then-not-is_there c =
 
 pub returns : goal.returns
 returns c =
-    let S = made.inserts (picked c.args.part.now c.args.self.now.changes) in
+    let S = made.inserts (past_changes c.args.past_set.now c.args.self.now.changes) in
     sym (refers-all_there S c.args.change.now c.hash-hash.ensures.limits
     ∙ ap (λ r. cover.all_there c.args.change.now.actor c.args.change.now.start S [] r) (sym c.records-records.ensures)
     ∙ ap (λ a. cover.all_there a c.args.change.now.start S [] c.records-records.result.now) (sym c.actor-actor.ensures)
@@ -58,7 +58,7 @@ returns c =
 
 pub loop-i-preserved : goal.loop-i-preserved
 loop-i-preserved c =
-    let S = made.inserts (picked c.args.part.now c.args.self.now.changes) in
+    let S = made.inserts (past_changes c.args.past_set.now c.args.self.now.changes) in
     let rs = c.records-records.result.now in
     let step : take (c.loop-i.i + 1) rs ≡ take c.loop-i.i rs ++ c.index-records-i-in-loop-i.result ∷ []
     = taken rs c.loop-i.i c.index-records-i-in-loop-i.result c.loop-i-test.true c.index-records-i-in-loop-i.is in

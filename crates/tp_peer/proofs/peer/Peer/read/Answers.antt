@@ -1,20 +1,21 @@
-use Rattle.tp_peer.proofs.Common.{inl, refl, ap, sym, subst, ◌∙◌, reply_of, PeerData, peer_data, PeerStep, Read, Reply}
-use Rattle.tp_peer.proofs.StepLaws.{step_runs, step_stopped}
+use Rattle.tp_peer.proofs.Common.{OutOfMemory, PeerState, PeerStep, Read, Refused, Text, peer_state, refl, subst}
+use Rattle.std.specs.Str.{chars}
+use Rattle.std.specs.String.{string_bytes}
+use Rattle.tp_peer.proofs.RunningLaws.{stopped_steps}
+use Rattle.tp_peer.proofs.StepLaws.{step_runs}
 use Rattle.tp_peer.proofs.peer.Peer.read.Goals as goal
 
 pub returns-then-self : goal.returns-then-self
-returns-then-self g c = step_stopped c.args.self.now Read (ap (λ (p : PeerData). p.stopped) (sym c.self.view_is) ∙ c.if-self.true)
+returns-then-self g c = stopped_steps _ c.args.self.now Read refl c.self.view_is c.if-self.true
 
-pub into_text-requires : goal.into_text-requires
-into_text-requires g c =
+pub returns-in-Ok : goal.returns-in-Ok
+returns-in-Ok g c =
     let s = c.self.inside in
-    let p : PeerData = peer_data s.actor s.document s.links.known s.appender s.stopped in
-    let runs : PeerStep p Read (reply_of c.read_on.result) p = step_runs p Read (reply_of c.read_on.result) p c.if-self.false (c.read_on.ensures.text p refl) in
-    inl (p, p, runs)
+    let p : PeerState = peer_state s.actor s.document s.links.known s.appender s.stopped in
+    subst (λ (q : PeerState). PeerStep q Read (Text (chars (string_bytes c.in-Ok.text))) q) c.self.view_is (step_runs p Read (Text (chars (string_bytes c.in-Ok.text))) p c.if-self.false (c.in-Ok.ensures.text, refl))
 
-pub returns : goal.returns
-returns g c =
+pub returns-in-Err : goal.returns-in-Err
+returns-in-Err g c =
     let s = c.self.inside in
-    let p : PeerData = peer_data s.actor s.document s.links.known s.appender s.stopped in
-    let runs : PeerStep p Read (reply_of c.read_on.result) p = step_runs p Read (reply_of c.read_on.result) p c.if-self.false (c.read_on.ensures.text p refl) in
-    subst (λ (r : Reply). PeerStep c.args.self.now Read r c.args.self.now) (sym c.into_text.ensures) (subst (λ (q : PeerData). PeerStep q Read (reply_of c.read_on.result) q) c.self.view_is runs)
+    let p : PeerState = peer_state s.actor s.document s.links.known s.appender s.stopped in
+    subst (λ (q : PeerState). PeerStep q Read (Refused OutOfMemory) q) c.self.view_is (step_runs p Read (Refused OutOfMemory) p c.if-self.false (refl, refl))

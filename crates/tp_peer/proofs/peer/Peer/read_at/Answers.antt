@@ -1,20 +1,28 @@
-use Rattle.tp_peer.proofs.Common.{inr, refl, ap, sym, subst, ◌∙◌, reply_of, PeerData, peer_data, PeerStep, ReadAt, Reply}
-use Rattle.tp_peer.proofs.StepLaws.{step_runs, step_stopped}
+use Rattle.std.specs.Str.{chars}
+use Rattle.std.specs.String.{string_bytes}
+use Rattle.tp_peer.proofs.Common.{PeerState, PeerError, PeerStep, ReadAt, Refused, Text, has_all, peer_state, refl, refusal_of_document, subst, sym}
+use Rattle.tp_peer.proofs.RunningLaws.{all_known, stopped_steps, text_refused}
+use Rattle.tp_peer.proofs.StepLaws.{step_runs}
 use Rattle.tp_peer.proofs.peer.Peer.read_at.Goals as goal
 
 pub returns-then-self : goal.returns-then-self
-returns-then-self g c = step_stopped c.args.self.now (ReadAt c.args.hashes.now) (ap (λ (p : PeerData). p.stopped) (sym c.self.view_is) ∙ c.if-self.true)
+returns-then-self g c = stopped_steps _ c.args.self.now (ReadAt c.args.hashes.now) refl c.self.view_is c.if-self.true
 
-pub into_text-requires : goal.into_text-requires
-into_text-requires g c =
+pub returns-in-Ok : goal.returns-in-Ok
+returns-in-Ok g c =
     let s = c.self.inside in
-    let p : PeerData = peer_data s.actor s.document s.links.known s.appender s.stopped in
-    let runs : PeerStep p (ReadAt c.args.hashes.now) (reply_of c.read_at_on.result) p = step_runs p (ReadAt c.args.hashes.now) (reply_of c.read_at_on.result) p c.if-self.false (c.read_at_on.ensures.text p refl) in
-    inr (c.args.hashes.now, (p, p, runs))
+    let H = c.args.hashes.now in
+    let p : PeerState = peer_state s.actor s.document s.links.known s.appender s.stopped in
+    subst (λ (q : PeerState). PeerStep q (ReadAt H) (Text (chars (string_bytes c.in-Ok.text))) q) c.self.view_is
+    (step_runs p (ReadAt H) (Text (chars (string_bytes c.in-Ok.text))) p c.if-self.false
+    (all_known _ (has_all p.applied H) c.in-Ok.ensures.unknown (λ other. cc), c.in-Ok.ensures.text, refl))
 
-pub returns : goal.returns
-returns g c =
+pub returns-in-Err : goal.returns-in-Err
+returns-in-Err g c =
     let s = c.self.inside in
-    let p : PeerData = peer_data s.actor s.document s.links.known s.appender s.stopped in
-    let runs : PeerStep p (ReadAt c.args.hashes.now) (reply_of c.read_at_on.result) p = step_runs p (ReadAt c.args.hashes.now) (reply_of c.read_at_on.result) p c.if-self.false (c.read_at_on.ensures.text p refl) in
-    subst (λ (r : Reply). PeerStep c.args.self.now (ReadAt c.args.hashes.now) r c.args.self.now) (sym c.into_text.ensures) (subst (λ (q : PeerData). PeerStep q (ReadAt c.args.hashes.now) (reply_of c.read_at_on.result) q) c.self.view_is runs)
+    let H = c.args.hashes.now in
+    let p : PeerState = peer_state s.actor s.document s.links.known s.appender s.stopped in
+    subst (λ (e : PeerError). PeerStep c.args.self.now (ReadAt H) (Refused e) c.args.self.now) (sym c.from.ensures)
+    (subst (λ (q : PeerState). PeerStep q (ReadAt H) (Refused (refusal_of_document c.in-Err.error)) q) c.self.view_is
+    (step_runs p (ReadAt H) (Refused (refusal_of_document c.in-Err.error)) p c.if-self.false
+    (text_refused p H _ c.in-Err.error refl c.in-Err.ensures.unknown c.in-Err.ensures.err, refl)))

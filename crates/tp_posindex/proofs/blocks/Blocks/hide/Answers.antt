@@ -1,7 +1,8 @@
 use Rattle.std.proofs.Common.{◌≡◌, ◌<◌, false, get_or, sym, subst, arith, length}
+use Rattle.tp_elements.proofs.Lists.{get_or-any}
 use Rattle.tp_posindex.specs.Laid.{Layout, flag_of}
 use Rattle.tp_posindex.specs.Layout.{StandsAt}
-use Rattle.tp_posindex.proofs.Laying.{IsLaid-hide, get_or-any}
+use Rattle.tp_posindex.proofs.Laying.{PoolInvariant-hide}
 use Rattle.tp_posindex.proofs.Keeping.{many_kept}
 use Rattle.tp_posindex.proofs.blocks.Blocks.hide.Goals as goal
 
@@ -22,7 +23,7 @@ lower-requires-clause-enough c =
     let many = many_kept s.pool.items s.order.items s.index.items s.lens.counts s.visible.counts s.home.items s.deleted.items c.self.invariant in
     let v = get_or s.visible.counts p 0 in
     let v_is : v ≡ get_or s.visible.counts p v = get_or-any s.visible.counts p 0 v (omega (arith, many.1, at.block)) in
-    (IsLaid-hide s.pool.items s.order.items s.visible.counts s.home.items s.deleted.items p c.spot_of-spot.result.offset c.args.number v c.self.invariant.blocks at within down v_is).0
+    (PoolInvariant-hide s.pool.items s.order.items s.visible.counts s.home.items s.deleted.items p c.spot_of-spot.result.offset c.args.number v c.self.invariant.blocks at within down v_is).0
 
 pub invariant_of-self : goal.invariant_of-self
 invariant_of-self c =
@@ -35,7 +36,7 @@ invariant_of-self c =
     let v = get_or s.visible.counts p 0 in
     let v_is : v ≡ get_or s.visible.counts p v = get_or-any s.visible.counts p 0 v (omega (arith, many.1, at.block)) in
     rw c.lower.ensures.counts (record {
-      blocks = (IsLaid-hide s.pool.items s.order.items s.visible.counts s.home.items s.deleted.items p c.spot_of-spot.result.offset c.args.number v c.self.invariant.blocks at within down v_is).1;
+      blocks = (PoolInvariant-hide s.pool.items s.order.items s.visible.counts s.home.items s.deleted.items p c.spot_of-spot.result.offset c.args.number v c.self.invariant.blocks at within down v_is).1;
       many = c.self.invariant.many;
       indexed = c.self.invariant.indexed;
       measured = c.self.invariant.measured;

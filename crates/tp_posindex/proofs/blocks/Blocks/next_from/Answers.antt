@@ -1,5 +1,5 @@
 use Rattle.std.proofs.Common.{◌≡◌, ◌+◌, ◌<◌, suc, sym, ◌∙◌, ap, arith, length}
-use Rattle.tp_posindex.specs.Layout.{joined, block_at, index_at}
+use Rattle.tp_posindex.specs.Layout.{concat_blocks, block_at, index_at}
 use Rattle.tp_posindex.proofs.Joining.{In-block, index_at-next, index_at-end}
 use Rattle.tp_posindex.proofs.blocks.Blocks.next_from.Goals as goal
 
@@ -21,6 +21,6 @@ returns-else-block-count-clause-none c =
     let last : suc p ≡ length bs = omega arith in
     let size = ap length c.block.ensures.value in
     let whole : c.args.spot.offset ≡ length (block_at bs p) = omega arith in
-    let all : index_at bs p c.args.spot.offset ≡ length (joined bs) =
+    let all : index_at bs p c.args.spot.offset ≡ length (concat_blocks bs) =
     ap (index_at bs p) whole ∙ sym (index_at-next bs p c.requires.block) ∙ ap (λ n. index_at bs n 0) last ∙ index_at-end bs in
     omega arith

@@ -1,7 +1,7 @@
 use Rattle.std.proofs.Common.{◌≡◌, [], ◌∷◌, true, not, ◌∙◌, ap}
 use Rattle.std.specs.Result.{is_ok}
 use Rattle.tp_posindex.specs.Laid.{Layout}
-use Rattle.tp_posindex.proofs.Keeping.{IsKept-first}
+use Rattle.tp_posindex.proofs.Keeping.{BlocksInvariant-first}
 use Rattle.tp_posindex.proofs.blocks.Blocks.put_first.Goals as goal
 
 pub invariant_of-self : goal.invariant_of-self
@@ -19,4 +19,4 @@ invariant_of-self c =
     let flags_is = rw flagged at c.push-else-is_err-4.ensures.items in
     let block_is : c.start-block.result ≡ 0 ∷ [] = c.start-block.ensures in
     let none = ap (λ (v : Layout). v.blocks) c.self.view_is ∙ c.requires.blocks in
-    rw (pool_is, order_is, index_is, home_is, flags_is, block_is, c.insert.ensures.counts, c.insert-2.ensures.counts) (IsKept-first s.pool.items s.order.items s.index.items s.lens.counts s.visible.counts s.home.items s.deleted.items c.self.invariant none)
+    rw (pool_is, order_is, index_is, home_is, flags_is, block_is, c.insert.ensures.counts, c.insert-2.ensures.counts) (BlocksInvariant-first s.pool.items s.order.items s.index.items s.lens.counts s.visible.counts s.home.items s.deleted.items c.self.invariant none)

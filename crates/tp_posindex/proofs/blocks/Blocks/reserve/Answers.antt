@@ -1,8 +1,8 @@
 use Rattle.std.proofs.Common.{◌≡◌, ◌≤◌, ◌+◌, ◌-◌, ◌*◌, ℕ, Bool, List, min, lit<, length, vec_len, vec_capacity, sym, ◌∙◌, ap, arith}
 use Rattle.std.proofs.lemmas.Bool.Decides.{nat_tests}
 use Rattle.std.proofs.lemmas.Grind.{div_ceil_times}
-use Rattle.tp_posindex.specs.Laid.{laid, room_of}
-use Rattle.tp_posindex.proofs.Laying.{length-laid}
+use Rattle.tp_posindex.specs.Laid.{blocks_in_order, room_of}
+use Rattle.tp_posindex.proofs.Laying.{length-blocks_in_order}
 use Rattle.tp_posindex.proofs.Rooms.{least_three, three_above, room_along, room_grows, room_enough, room_within}
 use Rattle.tp_posindex.proofs.blocks.Blocks.reserve.Goals as goal
 
@@ -13,7 +13,7 @@ returns-in_err-reserve_blocks-clause-room c =
     let numbers_room : 4294967295 - vec_len s.deleted ≤ 4294967295 - vec_len c.reserve-2.new.self = omega (arith, c.reserve-2.ensures.len) in
     let home_room : vec_capacity s.home - vec_len s.home ≤ vec_capacity c.reserve.new.self - vec_len c.reserve.new.self = omega (arith, c.reserve.ensures.capacity, c.reserve.ensures.len) in
     let deleted_room : vec_capacity s.deleted - vec_len s.deleted ≤ vec_capacity c.reserve-2.new.self - vec_len c.reserve-2.new.self = omega (arith, c.reserve-2.ensures.capacity, c.reserve-2.ensures.len) in
-    let blocks : length new.blocks ≡ length (laid s.pool.items s.order.items) = ap (λ (z : List (List ℕ)). length z) c.reserve_blocks.ensures.blocks in
+    let blocks : length new.blocks ≡ length (blocks_in_order s.pool.items s.order.items) = ap (λ (z : List (List ℕ)). length z) c.reserve_blocks.ensures.blocks in
     let numbers : length new.flags ≡ length s.deleted.items = ap (λ (z : List Bool). length z) (c.reserve_blocks.ensures.flags ∙ c.reserve-2.ensures.items) in
     let slots = least_three _ _ _ _ _ _ numbers_room home_room deleted_room in
     room_along _ _ _ (ap room_of c.self.view_is) (room_grows _ _ _ _ _ _ _ _ blocks numbers c.reserve_blocks.ensures.spare (room_within _ _ _ slots c.reserve_blocks.ensures.slots))
@@ -25,7 +25,7 @@ returns-clause-room c =
     let numbers_room : 4294967295 - vec_len s.deleted ≤ 4294967295 - vec_len c.reserve-2.new.self = omega (arith, c.reserve-2.ensures.len) in
     let home_room : vec_capacity s.home - vec_len s.home ≤ vec_capacity c.reserve.new.self - vec_len c.reserve.new.self = omega (arith, c.reserve.ensures.capacity, c.reserve.ensures.len) in
     let deleted_room : vec_capacity s.deleted - vec_len s.deleted ≤ vec_capacity c.reserve-2.new.self - vec_len c.reserve-2.new.self = omega (arith, c.reserve-2.ensures.capacity, c.reserve-2.ensures.len) in
-    let blocks : length new.blocks ≡ length (laid s.pool.items s.order.items) = ap (λ (z : List (List ℕ)). length z) c.reserve_blocks.ensures.blocks in
+    let blocks : length new.blocks ≡ length (blocks_in_order s.pool.items s.order.items) = ap (λ (z : List (List ℕ)). length z) c.reserve_blocks.ensures.blocks in
     let numbers : length new.flags ≡ length s.deleted.items = ap (λ (z : List Bool). length z) (c.reserve_blocks.ensures.flags ∙ c.reserve-2.ensures.items) in
     let slots = least_three _ _ _ _ _ _ numbers_room home_room deleted_room in
     room_along _ _ _ (ap room_of c.self.view_is) (room_grows _ _ _ _ _ _ _ _ blocks numbers c.reserve_blocks.ensures.spare (room_within _ _ _ slots c.reserve_blocks.ensures.slots))
@@ -38,7 +38,7 @@ returns-clause-ok c =
     let numbers_room : c.args.n ≤ 4294967295 - vec_len c.reserve-2.new.self = omega (arith, c.reserve-2.ensures.len, c.if-n-saturating_sub.false, c.saturating_sub.ensures) in
     let home_room : c.args.n ≤ vec_capacity c.reserve.new.self - vec_len c.reserve.new.self = omega (arith, c.in_ok-reserve.ensures.ok) in
     let deleted_room : c.args.n ≤ vec_capacity c.reserve-2.new.self - vec_len c.reserve-2.new.self = omega (arith, c.in_ok-reserve-2.ensures.ok) in
-    let blocks : length new.blocks ≡ length s.order.items = ap (λ (z : List (List ℕ)). length z) c.reserve_blocks.ensures.blocks ∙ length-laid s.pool.items s.order.items in
+    let blocks : length new.blocks ≡ length s.order.items = ap (λ (z : List (List ℕ)). length z) c.reserve_blocks.ensures.blocks ∙ length-blocks_in_order s.pool.items s.order.items in
     let numbers : length new.flags ≡ length s.deleted.items = ap (λ (z : List Bool). length z) (c.reserve_blocks.ensures.flags ∙ c.reserve-2.ensures.items) in
     let slots = three_above c.args.n _ _ _ numbers_room home_room deleted_room in
     let each = c.div_ceil.result in

@@ -1,8 +1,9 @@
 use Rattle.std.proofs.Common.{◌≡◌, ◌<◌, [], None, Some, sym, ◌∙◌, subst, length}
 use Rattle.tp_list.specs.Members.{In}
+use Rattle.tp_elements.proofs.Lists.{get_or-any}
 use Rattle.tp_posindex.specs.Laid.{Layout}
 use Rattle.tp_posindex.specs.Layout.{StandsAt, block_at}
-use Rattle.tp_posindex.proofs.Laying.{home_there, position_found, get_or-any}
+use Rattle.tp_posindex.proofs.Laying.{home_there, position_found}
 use Rattle.tp_posindex.proofs.Keeping.{home_indexed}
 use Rattle.tp_posindex.proofs.blocks.Blocks.spot_of.Goals as goal
 

@@ -1,8 +1,8 @@
 use Rattle.std.proofs.Common.{◌<◌, length, sym, ◌∙◌, ap, subst, arith}
 use Rattle.std.proofs.lemmas.List.{length-map}
+use Rattle.tp_elements.specs.Came.{element_at}
 use Rattle.tp_posindex.specs.Layout.{block_at}
 use Rattle.tp_posindex.specs.BlockState.{BlockState, IsInfoOf}
-use Rattle.tp_posindex.specs.Blocked.{element_at}
 use Rattle.tp_posindex.proofs.Sequencing.{block_at-map, index_at-map, block_shown}
 use Rattle.tp_posindex.proofs.sequence.BlockSequence.block.Goals as goal
 

@@ -1,7 +1,7 @@
 use Rattle.std.proofs.Common.{subst}
+use Rattle.tp_elements.specs.Came.{element_at}
 use Rattle.tp_posindex.specs.Layout.{AreSized}
 use Rattle.tp_posindex.specs.BlockState.{BlockState}
-use Rattle.tp_posindex.specs.Blocked.{element_at}
 use Rattle.tp_posindex.proofs.Sequencing.{AreSized-map}
 use Rattle.tp_posindex.proofs.sequence.BlockSequence.block_count.Goals as goal
 

@@ -2,9 +2,10 @@ use Rattle.tp_list.proofs.Members.{In-slice_get}
 use Rattle.tp_opid.specs.Tree.{IsThere, IsNew}
 use Rattle.std.proofs.Common.{◌≡◌, ◌<◌, length, map, sym, ◌∙◌, subst}
 use Rattle.std.proofs.lemmas.List.{length-map}
-use Rattle.tp_posindex.specs.Layout.{joined, block_at}
+use Rattle.tp_elements.specs.Came.{element_at}
+use Rattle.tp_posindex.specs.Layout.{concat_blocks, block_at}
 use Rattle.tp_posindex.specs.BlockState.{BlockState}
-use Rattle.tp_posindex.specs.Blocked.{element_at, pieces}
+use Rattle.tp_posindex.specs.Blocked.{pieces}
 use Rattle.tp_posindex.proofs.Seeking.{none_placed, found_placed}
 use Rattle.tp_posindex.proofs.Sequencing.{placed_is, block_at-map}
 use Rattle.tp_posindex.proofs.sequence.BlockSequence.block_of.Goals as goal
@@ -13,8 +14,8 @@ pub returns-in_err-number : goal.returns-in_err-number
 returns-in_err-number c =
     let s = c.self.inside in
     let none = (sym c.number_of.ensures ∙ c.in_err-number.was) in
-    let new = none_placed s.elements.items (joined s.blocks.blocks) c.args.id.now c.self.invariant.numbered.below none in
-    rw c.from_residual.ensures (subst (λ (v : BlockState). IsNew (joined v.blocks) c.args.id.now) c.self.view_is (subst (λ z. IsNew z c.args.id.now) (sym (placed_is s.elements.items s.blocks.blocks)) new))
+    let new = none_placed s.elements.items (concat_blocks s.blocks.blocks) c.args.id.now c.self.invariant.numbered.below none in
+    rw c.from_residual.ensures (subst (λ (v : BlockState). IsNew (concat_blocks v.blocks) c.args.id.now) c.self.view_is (subst (λ z. IsNew z c.args.id.now) (sym (placed_is s.elements.items s.blocks.blocks)) new))
 
 pub returns : goal.returns
 returns c =

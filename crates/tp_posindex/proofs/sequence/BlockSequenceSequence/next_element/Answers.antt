@@ -3,9 +3,9 @@ use Rattle.std.specs.Option.{option_map}
 use Rattle.tp_opid.specs.Insert.{Insert}
 use Rattle.tp_rga.specs.declared.walk.Seen.{Seen}
 use Rattle.tp_rga.specs.Shown.{seen_of}
-use Rattle.tp_posindex.specs.Layout.{joined, IsAfter}
+use Rattle.tp_elements.specs.Came.{element_at}
+use Rattle.tp_posindex.specs.Layout.{concat_blocks, IsAfter}
 use Rattle.tp_posindex.specs.BlockState.{BlockState}
-use Rattle.tp_posindex.specs.Blocked.{element_at}
 use Rattle.tp_posindex.proofs.Sequencing.{seen_at_place, seen_past, noted_numbers, after_element}
 use Rattle.tp_posindex.proofs.sequence.BlockSequenceSequence.next_element.Goals as goal
 
@@ -29,7 +29,7 @@ returns-in-Some-clause-seen c =
     let id = c.id.ensures ∙ ap (λ (z : List Insert). (element_at z k).id) c.entries-entries.ensures in
     let ch = c.ch.ensures ∙ ap (λ (z : List Insert). (element_at z k).ch) c.entries-entries.ensures in
     let is : Some (let e : Seen = record { id = c.id.result; ch = c.ch.result; deleted = c.is_deleted-deleted.result } in e) ≡ Some (record { id = (element_at s.elements.items k).id; ch = (element_at s.elements.items k).ch; deleted = c.is_deleted-deleted.result }) = cc in
-    is ∙ sym there ∙ ap (λ (v : BlockState). option_map (seen_of v.removals) (slice_get (joined v.blocks) c.args.walk.now.index)) c.self.view_is
+    is ∙ sym there ∙ ap (λ (v : BlockState). option_map (seen_of v.removals) (slice_get (concat_blocks v.blocks) c.args.walk.now.index)) c.self.view_is
 
 pub returns-in-Some-clause-spot : goal.returns-in-Some-clause-spot
 returns-in-Some-clause-spot c =
@@ -43,4 +43,4 @@ pub returns-in-None-clause-seen : goal.returns-in-None-clause-seen
 returns-in-None-clause-seen c =
     let s = c.self.inside in
     sym (seen_past s.elements.items s.blocks.blocks s.deletes.items c.args.walk.now.index c.in-None.ensures.none)
-    ∙ ap (λ (v : BlockState). option_map (seen_of v.removals) (slice_get (joined v.blocks) c.args.walk.now.index)) c.self.view_is
+    ∙ ap (λ (v : BlockState). option_map (seen_of v.removals) (slice_get (concat_blocks v.blocks) c.args.walk.now.index)) c.self.view_is

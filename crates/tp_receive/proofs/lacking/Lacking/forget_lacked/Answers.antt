@@ -14,13 +14,13 @@ loop-i-preserved c =
     elim c.if-is_lacked.branch [
       | then-is_lacked w ↦ record {
         long = ap (λ s. length s.hashes.items) w.self-inside-is ∙ length-set M i None ∙ inv.long;
-        behind = omega (arith, w.known-is, inv.behind);
-        known = λ j few. rw w.self-inside-is (known_before c.loop-i.known i M None inv.behind inv.known j (omega (arith, w.known-is, few)));
+        beyond = omega (arith, w.known-is, inv.beyond);
+        known = λ j few. rw w.self-inside-is (known_before c.loop-i.known i M None inv.beyond inv.known j (omega (arith, w.known-is, few)));
         halfway = λ C D W gains k. rw w.self-inside-is (forgets_one C D W L M i x k inv.long small (inv.halfway C D W gains k));
       }
       | else-is_lacked+then-known-i+then-is_some w ↦ record {
         long = ap (λ s. length s.hashes.items) w.self-inside-is ∙ inv.long;
-        behind = omega (arith, w.known-is);
+        beyond = omega (arith, w.known-is);
         known = λ j few. rw w.self-inside-is
             (known_more c.loop-i.known i M w.index-then-known-i.result.now w.if-known-i.true small w.index-then-known-i.ensures (sym w.is_some.ensures ∙ w.if-is_some.true) inv.known j (omega (arith, w.known-is, few)));
         halfway = λ C D W gains k. rw w.self-inside-is
@@ -28,7 +28,7 @@ loop-i-preserved c =
       }
       | else-is_lacked+else-known-i w ↦ record {
         long = ap (λ s. length s.hashes.items) w.self-inside-is ∙ inv.long;
-        behind = omega (arith, w.known-is, inv.behind);
+        beyond = omega (arith, w.known-is, inv.beyond);
         known = λ j few. rw w.self-inside-is (inv.known j (omega (arith, w.known-is, few)));
         halfway = λ C D W gains k. rw w.self-inside-is
             (keeps_one C D W L M i x c.index.result.now gains k inv.long small c.index.ensures (sym c.is_lacked.ensures ∙ w.if-is_lacked.false) (inv.halfway C D W gains k));

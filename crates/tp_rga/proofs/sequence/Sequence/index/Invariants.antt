@@ -9,7 +9,7 @@ invariant-loop-element g l =
     let s = g.Self.Sequence in
     let L = s.placed l.self in
     record {
-      noted : IfSome l.walk.spot (λ spot. s.stands_at l.self spot l.walk.index);
+      noted : IfSome l.walk.spot (λ spot. s.present_at l.self spot l.walk.index);
       left : option_map (λ n. l.walk.index + n) (index_in (drop l.walk.index L) l.id) ≡ index_in L l.id;
     }
 

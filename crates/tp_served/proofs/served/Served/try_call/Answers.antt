@@ -1,4 +1,4 @@
-use Rattle.tp_served.proofs.Common.{◌∙◌, ap, refl, sym, subst, Badge, call_in, reply_of, IsOnlyOn, SeatData, ViewState, seat_of, Replied}
+use Rattle.tp_served.proofs.Common.{◌∙◌, ap, refl, sym, subst, Badge, call_in, reply_of, IsOnlyOn, SeatState, ViewState, seat_of, Replied}
 use Rattle.tp_served.proofs.TokenLaws.{seat_at, tries_turn}
 use Rattle.tp_served.proofs.served.Served.try_call.Goals as goal
 
@@ -6,7 +6,7 @@ pub call_on-badge-requires-clause-turn : goal.call_on-badge-requires-clause-turn
 call_on-badge-requires-clause-turn g c =
     let t = seat_of c.seat.inside.badge.views in
     let views = ap (λ (b : Badge ViewState). b.views) c.replace-badge.ensures.value ∙ c.seat.invariant.alone in
-    (t, c.in-Ok.ensures.taken.1 t views, subst (λ (s : SeatData). IsOnlyOn s.state.number (call_in c.args.request)) (sym c.seat.view_is) c.requires.link)
+    (t, c.in-Ok.ensures.taken.1 t views, subst (λ (s : SeatState). IsOnlyOn s.state.number (call_in c.args.request)) (sym c.seat.view_is) c.requires.link)
 
 pub invariant_of-seat : goal.invariant_of-seat
 invariant_of-seat g c =
@@ -20,4 +20,4 @@ returns-in-Ok-clause-tries g c =
     let t = seat_of c.seat.inside.badge.views in
     let views = ap (λ (b : Badge ViewState). b.views) c.replace-badge.ensures.value ∙ c.seat.invariant.alone in
     let ends = c.call_on-badge.ensures.ends t (c.in-Ok.ensures.taken.1 t views) in
-    tries_turn t c.args.seat.now.state (call_in c.args.request) (reply_of c.call_on-badge.result.1) (Replied (reply_of c.call_on-badge.result.1)) c.call_on-badge.result.0.views (ap (λ (s : SeatData). s.state) c.seat.view_is) refl ends
+    tries_turn t c.args.seat.now.state (call_in c.args.request) (reply_of c.call_on-badge.result.1) (Replied (reply_of c.call_on-badge.result.1)) c.call_on-badge.result.0.views (ap (λ (s : SeatState). s.state) c.seat.view_is) refl ends

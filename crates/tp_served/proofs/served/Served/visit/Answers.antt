@@ -1,4 +1,4 @@
-use Rattle.tp_served.proofs.Common.{◌∙◌, ap, Badge, SeatData, missed_by, ViewState, seat_of}
+use Rattle.tp_served.proofs.Common.{◌∙◌, ap, Badge, SeatState, missed_by, ViewState, seat_of}
 use Rattle.tp_served.proofs.TokenLaws.{seat_at, visits_turn}
 use Rattle.tp_served.proofs.served.Served.visit.Goals as goal
 
@@ -23,4 +23,4 @@ returns-clause-visits g c =
     let views = ap (λ (b : Badge ViewState). b.views) c.replace-badge.ensures.value ∙ c.seat.invariant.alone in
     let turn = c.wait-turn.ensures.taken t views in
     let ends = c.visit_on-badge.ensures.ends (missed_by turn.0 t) turn.1 in
-    visits_turn t c.args.seat.now.state turn.0 _ c.visit_on-badge.result.0.views (ap (λ (s : SeatData). s.state) c.seat.view_is) ends
+    visits_turn t c.args.seat.now.state turn.0 _ c.visit_on-badge.result.0.views (ap (λ (s : SeatState). s.state) c.seat.view_is) ends

@@ -17,4 +17,4 @@ returns-clause-answered g c =
           c.document.ensures.id c.document.ensures.applied c.in_ok-answer_of.ensures;
     }
     in
-    OnOk-always c.written.result (AnswersRequest actor c.args.time c.args.peer.now p') answered
+    OnOk-always c.json_of.result (AnswersRequest actor c.args.time c.args.peer.now p') answered

@@ -1,6 +1,6 @@
 use Rattle.std.proofs.Common.{rules, refl, inl, inr, subst, ◌≡◌, [], Result, Option, Ok, Err}
 use Rattle.std.specs.Str.{chars}
-use Rattle.tp_document.specs.Editing.{Asked, asking}
+use Rattle.tp_document.specs.Editing.{EditRequest, asking}
 use Rattle.tp_opid.specs.declared.hash.Hash.{Hash}
 use Rattle.tp_peer.specs.EditingAt.{StepsAt}
 use Rattle.tp_peer.specs.declared.editing_at.EditAtError.{EditAtError}
@@ -23,10 +23,10 @@ returns-in-Err-after-clause-steps g c = (c.edit_at.result, c.edit_at.ensures.ste
 
 pub returns-in-Ok-after-clause-page : goal.returns-in-Ok-after-clause-page
 returns-in-Ok-after-clause-page g c page shows on =
-    let asked : Asked = asking c.args.self.now.actor c.args.splices.now c.args.time (chars []) in
+    let asked : EditRequest = asking c.args.self.now.actor c.args.splices.now c.args.time (chars []) in
     let p' = c.edit_at.new.self in
     let is : c.edit_at.result ≡ Ok c.in-Ok.made = search rules in
     let step : StepsAt c.args.peer.now c.args.heads.now asked (Ok c.in-Ok.made) p' =
     subst (λ (r : Result (Option Hash) EditAtError). StepsAt c.args.peer.now c.args.heads.now asked r p') is c.edit_at.ensures.step in
-    let told : IsNews p'.applied (edited_heads c.args.heads.now c.in-Ok.made) c.in-Ok-after.news = search rules in
-    shows_all c.args.peer.now p' page c.args.heads.now asked c.in-Ok.made c.in-Ok-after.news c.document.ensures.keeps.history.sound shows on step c.in-Ok.ensures.text told
+    let reported : IsNews p'.applied (edited_heads c.args.heads.now c.in-Ok.made) c.in-Ok-after.news = search rules in
+    shows_all c.args.peer.now p' page c.args.heads.now asked c.in-Ok.made c.in-Ok-after.news c.document.ensures.keeps.history.sound shows on step c.in-Ok.ensures.text reported

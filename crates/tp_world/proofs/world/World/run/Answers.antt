@@ -1,13 +1,13 @@
-use Rattle.tp_world.proofs.Common.{subst, arith, Carried, World, carried_follows, carried_headline, carried_moment}
+use Rattle.tp_world.proofs.Common.{subst, arith, WorldInvariant, World, carried_follows, carried_headline, carried_moment}
 use Rattle.tp_world.proofs.Runs.{goes_none, goes_push, goes_whole}
 use Rattle.tp_world.proofs.Steps.{run_carried}
 use Rattle.tp_world.proofs.world.World.run.Goals as goal
 
 pub returns-in-Err-clause-headline : goal.returns-in-Err-clause-headline
-returns-in-Err-clause-headline c = carried_headline c.args.self.now (subst (λ (w : World). Carried w) c.self.view_is c.self.invariant)
+returns-in-Err-clause-headline c = carried_headline c.args.self.now (subst (λ (w : World). WorldInvariant w) c.self.view_is c.self.invariant)
 
 pub returns-in-Err-clause-follows : goal.returns-in-Err-clause-follows
-returns-in-Err-clause-follows c = carried_follows c.args.self.now (subst (λ (w : World). Carried w) c.self.view_is c.self.invariant)
+returns-in-Err-clause-follows c = carried_follows c.args.self.now (subst (λ (w : World). WorldInvariant w) c.self.view_is c.self.invariant)
 
 pub loop-event-init : goal.loop-event-init
 loop-event-init c = record {
@@ -34,16 +34,16 @@ returns-clause-ok c =
 
 pub returns-clause-moments : goal.returns-clause-moments
 returns-clause-moments c = λ k.
-    carried_moment c.args.self.now _ _ c.loop-event.self k (subst (λ (w : World). Carried w) c.self.view_is c.self.invariant)
+    carried_moment c.args.self.now _ _ c.loop-event.self k (subst (λ (w : World). WorldInvariant w) c.self.view_is c.self.invariant)
     (goes_whole c.args.self.now c.loop-event.self c.as_slice-all.result.now c.args.events.items c.loop-event.event-index c.loop-event.replies.items c.loop-event-test.false c.as_slice-all.ensures.value
     c.loop-event.invariant.goes)
 
 pub returns-clause-headline : goal.returns-clause-headline
 returns-clause-headline c =
     carried_headline c.loop-event.self
-    (run_carried c.args.self.now _ _ c.loop-event.self (subst (λ (w : World). Carried w) c.self.view_is c.self.invariant) c.loop-event.invariant.goes)
+    (run_carried c.args.self.now _ _ c.loop-event.self (subst (λ (w : World). WorldInvariant w) c.self.view_is c.self.invariant) c.loop-event.invariant.goes)
 
 pub returns-clause-follows : goal.returns-clause-follows
 returns-clause-follows c =
     carried_follows c.loop-event.self
-    (run_carried c.args.self.now _ _ c.loop-event.self (subst (λ (w : World). Carried w) c.self.view_is c.self.invariant) c.loop-event.invariant.goes)
+    (run_carried c.args.self.now _ _ c.loop-event.self (subst (λ (w : World). WorldInvariant w) c.self.view_is c.self.invariant) c.loop-event.invariant.goes)

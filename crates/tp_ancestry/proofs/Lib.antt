@@ -1,0 +1,11 @@
+pub mod Common
+pub mod KeptLaws
+pub mod SinceLaws
+pub mod VectorLaws
+pub mod ClockLaws
+pub mod EndLaws
+pub mod DepsLaws
+pub mod PastsLaws
+pub mod CopyLaws
+pub mod OutsideLaws
+pub mod PastSetLaws

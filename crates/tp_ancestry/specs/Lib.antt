@@ -1,0 +1,12 @@
+pub mod Common
+pub mod VersionVectors
+pub mod PastSets
+pub mod Ends
+pub mod Deps
+pub mod Clocks
+pub mod Lists
+pub mod Copies
+pub mod Kept
+pub mod Pasts
+pub mod Outside
+pub mod AncestryState

@@ -1,5 +1,0 @@
-use Rattle.tp_change.proofs.Blame.{prefix_of_short}
-use Rattle.tp_change.proofs.layout.short_says_missing_alone.Goals as goal
-
-pub returns : goal.returns
-returns c = prefix_of_short

@@ -1,6 +1,0 @@
-use Rattle.std.proofs.Common.{◌≡◌, drop}
-use Rattle.tp_change.specs.Spelling.{has_run}
-use Rattle.tp_change.proofs.version.has_run.Given as goal
-
-abbrev pub invariant-loop-entry : goal.invariant-loop-entry
-invariant-loop-entry l = has_run (drop l.entry-index l.records) ≡ has_run l.records

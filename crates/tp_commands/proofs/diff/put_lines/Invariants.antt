@@ -1,9 +1,0 @@
-use Rattle.std.proofs.Common.{◌≡◌, ◌++◌, map, take}
-use Rattle.std.specs.List.{flat_map}
-use Rattle.std.specs.String.{string_bytes}
-use Rattle.tp_commands.specs.Diff.{signed_line}
-use Rattle.tp_commands.proofs.diff.put_lines.Given as goal
-
--- the lines so far stand behind the text
-abbrev pub invariant-loop-line : goal.invariant-loop-line
-invariant-loop-line l = string_bytes l.text ≡ string_bytes l.fn.text ++ flat_map (signed_line l.sign) (map (λ x. x.now) (take l.line-index l.lines))

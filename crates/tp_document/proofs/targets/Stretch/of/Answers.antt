@@ -1,6 +1,0 @@
-use Rattle.tp_document.proofs.Common.{refl}
-use Rattle.tp_document.proofs.TargetLaws.{alone_covers}
-use Rattle.tp_document.proofs.targets.Stretch.of.Goals as goal
-
-pub returns : goal.returns
-returns c = λ x. alone_covers _ c.args.id.now x refl

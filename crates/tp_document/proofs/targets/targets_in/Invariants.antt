@@ -1,9 +1,0 @@
-use Rattle.tp_document.proofs.Common.{◌≡◌, ◌++◌, OpId, covers, deletes_in, is_removed, ops_of}
-use Rattle.tp_document.proofs.targets.targets_in.Given as goal
-
--- the stretches so far cover the targets of the operations so far
-abbrev pub invariant-loop-op : goal.invariant-loop-op
-invariant-loop-op l = record {
-  split : l.yielded ++ l.op-iterator ≡ ops_of l.change;
-  targets : (x : OpId) → covers l.stretches.items x ≡ is_removed (deletes_in l.yielded) x;
-}

@@ -1,5 +1,0 @@
-use Rattle.tp_graph.proofs.Common.{◌≡◌, take, marked_more}
-use Rattle.tp_graph.proofs.applied.Applied.mark.Given as goal
-
-abbrev pub invariant-loop-hash : goal.invariant-loop-hash
-invariant-loop-hash l = l.marks ≡ marked_more (take l.hash-index l.hashes) l.self.changes l.initial.marks

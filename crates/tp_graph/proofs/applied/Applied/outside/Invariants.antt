@@ -1,5 +1,0 @@
-use Rattle.tp_graph.proofs.Common.{◌≡◌, ◌++◌, drop, map, bits, skip}
-use Rattle.tp_graph.proofs.applied.Applied.outside.Given as goal
-
-abbrev pub invariant-loop-i : goal.invariant-loop-i
-invariant-loop-i l = map (λ c. c.now) l.found.items ++ skip (drop l.i (bits l.part l.self.changes)) (drop l.i l.self.changes) ≡ skip (bits l.part l.self.changes) l.self.changes

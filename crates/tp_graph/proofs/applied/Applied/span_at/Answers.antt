@@ -1,8 +1,0 @@
-use Rattle.tp_graph.proofs.Common.{subst, IfSome_then, AppliedState, ArePasts}
-use Rattle.tp_graph.proofs.applied.Applied.span_at.Goals as goal
-
-pub returns : goal.returns
-returns c =
-    let l = c.self.inside.lists in
-    let pasts = subst (λ (s : AppliedState). ArePasts s.changes l.pasts.prefixes.items l.pasts.apart.items) c.self.view_is c.self.invariant.pasts in
-    IfSome_then c.span.result c.span.ensures (λ prefix known d at. known c.args.self.now.changes pasts d at)

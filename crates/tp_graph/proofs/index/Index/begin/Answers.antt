@@ -1,6 +1,0 @@
-use Rattle.tp_graph.proofs.Common.{ap, Notes}
-use Rattle.tp_graph.proofs.NotesLaws.{AreNoted-first}
-use Rattle.tp_graph.proofs.index.Index.begin.Goals as goal
-
-pub returns-then-take_free-clause-notes : goal.returns-then-take_free-clause-notes
-returns-then-take_free-clause-notes c = λ C end lacks w. AreNoted-first C c.args.self.now _ c.requires.none (ap (λ (n : Notes). n.hashes) c.self.view_is) w

@@ -1,8 +1,0 @@
-use Rattle.tp_graph.proofs.Common.{◌≡◌, ◌+◌, ◌-◌, length, AreInSlots, WINDOW}
-use Rattle.tp_graph.proofs.index.Index.in_slots.Given as goal
-
-abbrev pub invariant-loop-slot : goal.invariant-loop-slot
-invariant-loop-slot l = record {
-  count : length l.marks.items ≡ length l.slots - WINDOW + 1;
-  marked : AreInSlots l.slots l.slot-index l.marks.items;
-}

@@ -1,6 +1,0 @@
-use Rattle.tp_graph.proofs.SoundLaws.{Fits-from_defect}
-use Rattle.tp_graph.proofs.TreeLaws.{can_delete}
-use Rattle.tp_graph.proofs.laws.each_target_is_there.Goals as goal
-
-pub returns : goal.returns
-returns c = λ C c m xs id target ys e. can_delete C c (Fits-from_defect C c m) xs id target ys e

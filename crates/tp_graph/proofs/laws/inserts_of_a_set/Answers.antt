@@ -1,5 +1,0 @@
-use Rattle.tp_graph.proofs.Common.{inserts-more}
-use Rattle.tp_graph.proofs.laws.inserts_of_a_set.Goals as goal
-
-pub returns : goal.returns
-returns c = λ C D f. inserts-more C D f

@@ -1,6 +1,0 @@
-use Rattle.tp_graph.proofs.SoundLaws.{Fits-from_defect}
-use Rattle.tp_graph.proofs.TreeLaws.{own-below}
-use Rattle.tp_graph.proofs.laws.own_inserts_stand_below.Goals as goal
-
-pub returns : goal.returns
-returns c = λ C c s m x i e. own-below C c s (Fits-from_defect C c m) x i e

@@ -1,5 +1,0 @@
-use Rattle.tp_graph.proofs.Common.{◌≡◌, take}
-use Rattle.tp_graph.proofs.lists.copies_of.Given as goal
-
-abbrev pub invariant-loop-change : goal.invariant-loop-change
-invariant-loop-change l = l.copies.items ≡ take l.change-index l.changes

@@ -1,0 +1,6 @@
+use Rattle.tp_graph.proofs.Common.{◌≡◌, drop}
+use Rattle.tp_history.specs.Named as named
+use Rattle.tp_graph.proofs.missing.has.Given as goal
+
+abbrev pub invariant-loop-change : goal.invariant-loop-change
+invariant-loop-change l = named.has (drop l.change-index l.changes) l.fn.hash ≡ named.has l.changes l.fn.hash

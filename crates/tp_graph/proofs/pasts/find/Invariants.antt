@@ -1,8 +1,0 @@
-use Rattle.tp_graph.proofs.Common.{◌-◌, ◌≤◌, length}
-use Rattle.tp_graph.proofs.pasts.find.Given as goal
-
-abbrev pub invariant-loop-low : goal.invariant-loop-low
-invariant-loop-low l = (l.low ≤ l.high) × (l.high ≤ length l.apart)
-
-abbrev pub decreases-loop-low : goal.decreases-loop-low
-decreases-loop-low l = l.high - l.low

@@ -1,0 +1,13 @@
+pub mod Common
+pub mod GraphError
+pub mod Named
+pub mod Reach
+pub mod Past
+pub mod Heads
+pub mod Fit
+pub mod Sound
+pub mod Places
+pub mod Notes
+pub mod Marks
+pub mod ByActor
+pub mod Since

@@ -1,5 +1,0 @@
-use Rattle.tp_journal.proofs.CutLaws.{recovers_cut}
-use Rattle.tp_journal.proofs.laws.cut_appends_recover.Goals as goal
-
-pub returns : goal.returns
-returns c = recovers_cut

@@ -1,5 +1,0 @@
-use Rattle.tp_journal.proofs.BytesLaws.{journal_is}
-use Rattle.tp_journal.proofs.laws.journals_are_bytes.Goals as goal
-
-pub returns : goal.returns
-returns c = journal_is

@@ -1,5 +1,0 @@
-use Rattle.tp_journal.proofs.CutLaws.{journal-append, journal-push}
-use Rattle.tp_journal.proofs.laws.journals_grow.Goals as goal
-
-pub returns : goal.returns
-returns c = record { one = journal-push; more = journal-append }

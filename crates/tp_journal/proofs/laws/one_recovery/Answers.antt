@@ -1,5 +1,0 @@
-use Rattle.tp_journal.proofs.RecoveryLaws.{recovers_once}
-use Rattle.tp_journal.proofs.laws.one_recovery.Goals as goal
-
-pub returns : goal.returns
-returns c = recovers_once

@@ -1,5 +1,0 @@
-use Rattle.tp_journal.proofs.RecoveryLaws.{recovers_or_refused}
-use Rattle.tp_journal.proofs.laws.refused_or_recovered.Goals as goal
-
-pub returns : goal.returns
-returns c = recovers_or_refused

@@ -1,0 +1,10 @@
+pub mod Utf8Tests
+pub mod OneLaws
+pub mod ChangeFields
+pub mod WholeChange
+pub mod Blame
+pub mod RunLaws
+pub mod SpellingLaws
+pub mod Counts
+pub mod PutsLaws
+pub mod Lengths

@@ -1,0 +1,9 @@
+pub mod Common
+pub mod MessageFields
+pub mod WholeMessage
+pub mod FaultLaws
+pub mod ShortLaws
+pub mod StepLaws
+pub mod SizeLaws
+pub mod JudgeLaws
+pub mod ReaderLaws

@@ -1,0 +1,6 @@
+use Rattle.tp_message.proofs.Common.{◌≡◌, ◌++◌, map, take, flat_map}
+use Rattle.tp_layout.specs.Spelling.{framed_change}
+use Rattle.tp_message.proofs.writing.with_each.Given as goal
+
+abbrev pub invariant-loop-change : goal.invariant-loop-change
+invariant-loop-change l = l.whole.items ≡ l.fn.out.items ++ flat_map framed_change (map (λ c. c.now) (take l.change-index l.changes))

@@ -1,0 +1,9 @@
+pub mod Common
+pub mod SyncError
+pub mod Message
+pub mod Spelling
+pub mod Reading
+pub mod Lists
+pub mod Stages
+pub mod Steps
+pub mod ReaderState

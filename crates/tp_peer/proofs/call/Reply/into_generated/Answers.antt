@@ -1,6 +1,0 @@
-use Rattle.tp_peer.proofs.Common.{inl, inr}
-use Rattle.tp_peer.proofs.ReplyLaws.{generated_or_refused}
-use Rattle.tp_peer.proofs.call.Reply.into_generated.Goals as goal
-
-pub unreachable-requires : goal.unreachable-requires
-unreachable-requires c = elim (generated_or_refused c.args.self c.requires) [ inl x ↦ c.in_default.not-Generated x.0 x.1 | inr x ↦ c.in_default.not-Refused x.0 x.1 ]

@@ -1,0 +1,25 @@
+use Rattle.tp_peer.specs.declared.exchanged.Received.{Received as ReceivedOf}
+use Rattle.tp_peer.proofs.Common.{message_spelling, Receive, Received, report_of, Bool, Call, Reply, false, peer_state, refl, reply_of_result, stops}
+use Rattle.tp_peer.proofs.RunningLaws.{outcome_runs, running_leaves_peer, running_steps, stopped_steps}
+use Rattle.tp_peer.proofs.peer.Peer.receive_message.Goals as goal
+
+pub returns-then-self : goal.returns-then-self
+returns-then-self g c = stopped_steps _ c.args.self.now (Receive c.args.link.0 (message_spelling c.args.message)) refl c.self.view_is c.if-self.true
+
+pub invariant_of-self : goal.invariant_of-self
+invariant_of-self g c =
+    let s = c.self.inside in
+    let new = c.receive_message_on-heard.new in
+    let call : Call = Receive c.args.link.0 (message_spelling c.args.message) in
+    let reply : Reply = reply_of_result (λ (r : ReceivedOf). Received (report_of r.applied) r.same_heads) c.receive_message_on-heard.result in
+    running_leaves_peer s.actor s.document new.document s.links.known new.links.known s.appender new.appender s.stopped c.stops-self-inside.result (stops c.receive_message_on-heard.result) call reply c.self.invariant c.if-self.false c.stops-self-inside.ensures
+    (outcome_runs (λ (r : ReceivedOf). Received (report_of r.applied) r.same_heads) c.receive_message_on-heard.result (peer_state s.actor s.document s.links.known s.appender false) call (λ (b : Bool). peer_state s.actor new.document new.links.known new.appender b) (c.receive_message_on-heard.ensures.ok s.actor) (c.receive_message_on-heard.ensures.err s.actor))
+
+pub returns : goal.returns
+returns g c =
+    let s = c.self.inside in
+    let new = c.receive_message_on-heard.new in
+    let call : Call = Receive c.args.link.0 (message_spelling c.args.message) in
+    let reply : Reply = reply_of_result (λ (r : ReceivedOf). Received (report_of r.applied) r.same_heads) c.receive_message_on-heard.result in
+    running_steps c.args.self.now s.actor s.document new.document s.links.known new.links.known s.appender new.appender s.stopped c.stops-self-inside.result (stops c.receive_message_on-heard.result) call reply refl c.self.view_is c.if-self.false c.stops-self-inside.ensures
+    (outcome_runs (λ (r : ReceivedOf). Received (report_of r.applied) r.same_heads) c.receive_message_on-heard.result (peer_state s.actor s.document s.links.known s.appender false) call (λ (b : Bool). peer_state s.actor new.document new.links.known new.appender b) (c.receive_message_on-heard.ensures.ok s.actor) (c.receive_message_on-heard.ensures.err s.actor))

@@ -1,0 +1,93 @@
+//! What is printed for a person below a refusal: what it means for a file, what was kept, and what to do.
+
+use tp_commands::CommandError;
+use tp_document::DocError;
+use tp_peer::PeerError;
+use tp_store::StoreError;
+use tp_sync::SyncError;
+
+// Wherever memory was refused.
+const NO_MEMORY: &str = "memory ran out; what was on the disk before is there";
+
+/// A sentence on the refusal, as it goes on after the path of the file that it is about and a colon.
+pub(crate) fn advice(error: CommandError) -> &'static str {
+    match error {
+        CommandError::Io => "it can't be read or written",
+        CommandError::OutOfMemory => NO_MEMORY,
+        CommandError::Peer(error) => of_peer(error),
+        CommandError::Doc(error) => of_document(error),
+        CommandError::Store(error) => of_bytes(error),
+        CommandError::Busy => "another process has it open; nothing was changed",
+        CommandError::NotText { .. } => "only text is brought in; nothing was changed",
+        CommandError::NotEmpty => {
+            "it has a text already: textpeer update makes it that of a file"
+        }
+    }
+}
+
+fn of_peer(error: PeerError) -> &'static str {
+    match error {
+        PeerError::ActorInUse => {
+            "it has changes under the actor that the key gives: give another --key, or none"
+        }
+        PeerError::JournalFailed => {
+            "it can't be written, or not brought to the disk, which may be full; what was there before is kept"
+        }
+        PeerError::Stopped => "its journal failed before, and it takes nothing more",
+        PeerError::TooManyLinks => "it has 1,024 links already",
+        PeerError::JournalNotEmpty => "something is there already, and stays as it is",
+        PeerError::Doc(error) => of_document(error),
+        PeerError::Sync(error) => of_message(error),
+        PeerError::Store(error) => of_bytes(error),
+        PeerError::OutOfMemory => NO_MEMORY,
+    }
+}
+
+fn of_document(error: DocError) -> &'static str {
+    match error {
+        DocError::OutOfRange => "its text has fewer characters than that; nothing was changed",
+        DocError::CounterLimit => "its counters are used up: no character can be added",
+        DocError::TooManyOps => {
+            "at most 65,536 characters an edit, inserted and deleted ones together; nothing was changed"
+        }
+        DocError::TooManyHeads => "it has more than 65,535 heads: a change can't name them all",
+        DocError::UnknownHead => "it has no change with that hash: textpeer log lists them",
+        DocError::UnknownElement => "that character isn't in it",
+        DocError::PendingFull => "more than 1,024 changes would wait for others",
+        DocError::HashTaken => "another change in it has that hash",
+        DocError::OutOfMemory => NO_MEMORY,
+        DocError::OtherDocument => "it is of another document, and only copies of one are merged",
+        DocError::TooLong => "a message has at most 65,535 bytes, and a change 4,194,304",
+        DocError::Full => "it has 4,294,967,295 changes, and takes no more",
+        DocError::NotKept => "the change could not be kept; nothing was changed",
+    }
+}
+
+fn of_message(error: SyncError) -> &'static str {
+    match error {
+        SyncError::BadMessage => "what the other side sent is no message",
+        SyncError::BadChange => "a change that the other side sent is damaged",
+        SyncError::TooManyHeads => "it has more heads than a message can name",
+        SyncError::PendingFull => "more than 1,024 changes would wait for others",
+        SyncError::OutOfMemory => NO_MEMORY,
+        SyncError::OtherDocument => "the other side has another document",
+        SyncError::NotKept => "a change could not be kept",
+    }
+}
+
+fn of_bytes(error: StoreError) -> &'static str {
+    match error {
+        StoreError::BadMagic => {
+            "it doesn't begin as it is to: a saved file is brought in by textpeer load"
+        }
+        StoreError::Truncated => "a saved file that was cut short: its end is missing",
+        StoreError::BadDigest => "a saved file that was changed: it hasn't the digest at its end",
+        StoreError::Damaged { .. } => "textpeer recover makes a journal of all that can be had",
+        StoreError::Refused(_) => {
+            "a change in it doesn't fit the ones before: textpeer check says where"
+        }
+        StoreError::Io => "it can't be read or written",
+        StoreError::OutOfMemory => NO_MEMORY,
+        StoreError::NoHeader => "it is empty, or ends within its header: textpeer new makes one",
+    }
+}

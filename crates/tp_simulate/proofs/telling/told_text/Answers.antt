@@ -1,8 +1,0 @@
-use Rattle.std.proofs.Common.{◌∙◌, sym}
-use Rattle.std.specs.String.{string_bytes}
-use Rattle.tp_simulate.proofs.TellLaws.{text_is, told_shown}
-use Rattle.tp_simulate.proofs.telling.told_text.Goals as goal
-
-pub returns : goal.returns
-returns c =
-    text_is string_bytes c.shown.result _ _ (told_shown c.args.asked.now c.args.text.now (sym c.is_mark.ensures ∙ c.if-is_mark.false) c.utf8.text) c.shown.ensures

@@ -1,0 +1,12 @@
+pub mod Common
+pub mod ShowingLaws
+pub mod EndLaws
+pub mod PastElements
+pub mod SnapshotLaws
+pub mod DifferenceLaws
+pub mod VisibleLaws
+pub mod EffectLaws
+pub mod BuilderLaws
+pub mod WindowLaws
+pub mod TargetLaws
+pub mod RepeatLaws

@@ -1,5 +1,0 @@
-use Rattle.tp_sync.proofs.WholeMessage.{spelled_alone}
-use Rattle.tp_sync.proofs.layout.spelled_messages_alone_decode.Goals as goal
-
-pub returns : goal.returns
-returns c = spelled_alone

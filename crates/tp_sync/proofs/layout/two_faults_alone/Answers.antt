@@ -1,5 +1,0 @@
-use Rattle.tp_sync.proofs.FaultLaws.{message_faults}
-use Rattle.tp_sync.proofs.layout.two_faults_alone.Goals as goal
-
-pub returns : goal.returns
-returns c = message_faults

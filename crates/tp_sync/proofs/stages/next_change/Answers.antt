@@ -1,8 +1,0 @@
-use Rattle.tp_sync.proofs.Common.{err_from_is_err_and}
-use Rattle.tp_sync.proofs.JudgeLaws.{moves_of_steps}
-use Rattle.tp_sync.proofs.stages.next_change.Goals as goal
-
-pub returns-in_err-next : goal.returns-in_err-next
-returns-in_err-next c =
-    let p = err_from_is_err_and c.from_residual.result c.from_residual.ensures.1 in
-    rw (p.1, p.2) (moves_of_steps _ _ _ _ _ _ c.in_err-next.ensures)

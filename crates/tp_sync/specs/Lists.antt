@@ -1,6 +1,0 @@
--- What was read of a message, as its parts.
-use Rattle.tp_sync.specs.declared.stages.Lists.{Lists}
-use Rattle.tp_sync.specs.Message.{MessageParts}
-
-abbrev pub parts_in : Lists → MessageParts
-parts_in l = record { version = l.version; heads = l.heads.items; wants = l.wants.items; known = l.known.items; changes = l.changes.items }

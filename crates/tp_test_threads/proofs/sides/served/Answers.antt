@@ -1,5 +1,0 @@
-use Rattle.tp_test_threads.proofs.LastSeat.{opened_are_of}
-use Rattle.tp_test_threads.proofs.sides.served.Goals as goal
-
-pub returns-in-Ok : goal.returns-in-Ok
-returns-in-Ok g c = opened_are_of _ _ c.args.seats _ c.in-Ok.ensures.served.2

@@ -1,4 +1,0 @@
-mod ShownText
-pub mod Applied
-pub mod Numbered
-pub mod Checked

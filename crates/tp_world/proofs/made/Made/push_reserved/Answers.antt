@@ -1,9 +1,0 @@
-use Rattle.tp_world.proofs.Common.{List, sym, subst, ChangeParts, AreNoted, MadeData, hash_of, is_noted, ◌≡◌, true}
-use Rattle.tp_world.proofs.MadeLaws.{noted_push}
-use Rattle.tp_world.proofs.made.Made.push_reserved.Goals as goal
-
-pub invariant_of-self : goal.invariant_of-self
-invariant_of-self c =
-    subst (λ (l : List ChangeParts). AreNoted l c.self.inside.hashes.keys) (sym c.push_reserved.ensures.items)
-    (noted_push c.self.inside.changes.items c.self.inside.hashes.keys c.args.change c.self.invariant
-    (subst (λ (m : MadeData). is_noted m.noted (hash_of c.args.change) ≡ true) (sym c.self.view_is) c.requires.noted))

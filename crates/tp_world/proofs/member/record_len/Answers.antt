@@ -1,5 +1,0 @@
-use Rattle.tp_world.proofs.Common.{arith, length-record_of}
-use Rattle.tp_world.proofs.member.record_len.Goals as goal
-
-pub returns : goal.returns
-returns c = omega (arith, length-record_of c.args.change.now, c.encoded_len.ensures)
