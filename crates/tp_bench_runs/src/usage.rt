@@ -22,9 +22,9 @@ Adds changes of one character to a graph, one by one, and prints what each tenth
   chain            a chain of 100,000 changes of one actor
   long-chain       a chain of 400,000, as many as the branches come to
   actors           a chain of 100,000 changes, each by an actor of its own
-  two-by-turns     two branches of 20,000 changes by turns, and their merge; the same behind it, ten times in all
+  two-by-turns     two branches of 20,000 changes by turns, and their merge; the same after it, ten times in all
   two-whole        the same, one branch after the other
-  twenty-by-turns  twenty branches of 2,000 changes by turns, and their merge; the same behind it, ten times in all
+  twenty-by-turns  twenty branches of 2,000 changes by turns, and their merge; the same after it, ten times in all
   twenty-whole     the same, one branch after another
 
 Or adds one change, and prints what it took:
