@@ -2,7 +2,12 @@
 #![tactic(auto)]
 
 mod lock;
+mod place;
 mod system;
 
 pub use lock::Lockable;
+pub use place::Place;
 pub use system::{SystemFile, SystemFiles};
+
+#[cfg(test)]
+mod tests;

@@ -2,8 +2,11 @@
 
 ghost use Rattle.std.specs.Prelude.{true, IfOk, IsTrue};
 
+use crate::place::Place;
+use std::alloc::{AllocError, Global};
 use std::fs::{File, TryLockError};
 use std::io;
+use std::os::fd::AsRawFd;
 
 /// An open file that can have the lock of its file. The lock is advisory: it keeps out who asks for it too. It is free again
 /// once the open file is closed, at the latest where its process ends, however it ends.
@@ -17,6 +20,9 @@ pub trait Lockable {
     /// or of another one.
     fn take_lock(&self) -> io::Result<bool>
         ensures { IfOk result (λ taken. IsTrue taken → is_locked self.now) };
+
+    /// The place where the open file is now.
+    fn place(&self, alloc: Global) -> Result<Place, AllocError>;
 }
 
 impl Lockable for File {
@@ -28,5 +34,9 @@ impl Lockable for File {
             Err(TryLockError::WouldBlock) => Ok(false),
             Err(TryLockError::Error(error)) => Err(error),
         }
+    }
+
+    fn place(&self, alloc: Global) -> Result<Place, AllocError> {
+        Place::of(alloc, self.as_raw_fd())
     }
 }

@@ -3,9 +3,10 @@
 ghost use Rattle.std.specs.Prelude.{◌≤◌, IfOk};
 
 use crate::lock::Lockable;
+use crate::place::Place;
 use libc::{LOCK_EX, LOCK_NB, O_APPEND, O_CREAT, O_EXCL, O_RDONLY, O_RDWR, O_TRUNC, O_WRONLY};
 use os::FromRawFd;
-use std::alloc::Allocator;
+use std::alloc::{AllocError, Allocator, Global};
 use std::fs::{Metadata, OpenFile, OpenOptions};
 use std::io;
 use std::io::{ErrorKind, Read, Seek, SeekFrom, Write};
@@ -119,6 +120,10 @@ impl Lockable for SystemFile {
             Err(error) if error.kind() == ErrorKind::WouldBlock => Ok(false),
             Err(error) => Err(error),
         }
+    }
+
+    fn place(&self, alloc: Global) -> Result<Place, AllocError> {
+        Place::of(alloc, self.fd.as_raw_fd())
     }
 }
 

@@ -11,7 +11,7 @@ use std::alloc::Global;
 use std::fs::OpenFile;
 use std::io;
 use std::io::{ErrorKind, Read, Write};
-use tp_file::Lockable;
+use tp_file::{Lockable, Place};
 use tp_ghost::GhostBytes;
 use tp_recovery::Recovering;
 use tp_rga::Sequence;
@@ -39,6 +39,9 @@ pub(crate) trait JournalFile {
     /// Brings it to the disk. Whether that was done.
     fn sync(&mut self) -> bool
         ensures { calls self.new ≡ Sync result ∷ calls self.old };
+
+    /// Whether it is still where it was opened, and has at least so many bytes.
+    fn is_there(&self, least: u64) -> bool;
 }
 
 /// An open file of the system, and its calls: each of its functions makes one call of the file, and keeps that with its answer.
@@ -46,37 +49,46 @@ pub(crate) trait JournalFile {
 /// nothing else has the file once it is opened.
 pub(crate) struct CalledFile<F: Write + OpenFile + Drop> {
     file: F,
+    place: Place,
     calls: Calls,
 }
 
 impl<F: Write + OpenFile + Drop> Drop for CalledFile<F> {
     fn drop(self) {
-        let CalledFile { file: _, calls: _ } = self;
+        let CalledFile {
+            file: _,
+            place: _,
+            calls: _,
+        } = self;
     }
 }
 
 impl<F: Write + OpenFile + Drop> CalledFile<F> {
-    /// An open file. Nothing was asked of it yet but its bytes.
-    pub(crate) fn of(file: F) -> CalledFile<F>
+    /// An open file, and where it is. Nothing was asked of it yet but its bytes.
+    pub(crate) fn of(file: F, place: Place) -> CalledFile<F>
         ensures { result.calls.list ≡ [] }
     {
         CalledFile {
             file,
+            place,
             calls: Calls::none(),
         }
     }
 }
 
 impl<F: Write + OpenFile + Lockable + Drop> CalledFile<F> {
-    /// Takes the file's lock. `Busy` where another has it.
-    pub(crate) fn lock(&self) -> Result<(), OpenError>
+    /// Takes the file's lock. `Busy` where another has it. `Io` where the file was removed from the path, or another one put
+    /// there, between its opening and its lock.
+    pub(crate) fn lock(&self, path: &str) -> Result<(), OpenError>
         ensures { OnOk result (F.is_locked self.now.file) }
     {
-        if self.file.take_lock()? {
-            Ok(())
-        } else {
-            Err(OpenError::Busy)
+        if !self.file.take_lock()? {
+            return Err(OpenError::Busy);
         }
+        if self.place.was_removed(path) || !self.place.is_there() {
+            return Err(OpenError::Io);
+        }
+        Ok(())
     }
 }
 
@@ -144,5 +156,9 @@ impl<F: Write + OpenFile + Drop> JournalFile for CalledFile<F> {
         let done = self.file.sync_data().is_ok();
         self.calls = Calls::with(&self.calls, &FileCall::Sync(done));
         done
+    }
+
+    fn is_there(&self, least: u64) -> bool {
+        self.place.is_kept(least)
     }
 }

@@ -1,8 +1,9 @@
 //! A journal in a file that brings to the disk what was appended.
 
-ghost use Rattle.std.specs.Prelude.{◌≡◌, ◌⊎◌, [], false, IfOk, IfErr};
+ghost use Rattle.std.specs.Prelude.{◌≡◌, ◌⊎◌, [], false, true, IfOk, IfErr, OnOk, OnErr, IsOkUnless};
 ghost use Rattle.tp_journal.specs.Calls.{IsAllSynced};
-ghost use Rattle.tp_journal.specs.Journal.{failing};
+ghost use Rattle.tp_journal.specs.Journal.{HasGrown, failing};
+ghost use Rattle.tp_journal.specs.declared.error.JournalError.TheVariants.{Io};
 ghost use Rattle.tp_recovery.specs.Recovery.{HasTail, Recovers};
 ghost use Rattle.tp_recovery.specs.Refusals.{IsJournalFault};
 ghost use Rattle.tp_store.specs.declared.error.StoreError.TheVariants.{OutOfMemory as Lack};
@@ -26,6 +27,8 @@ use tp_store::StoreError;
 pub struct DurableJournal<F: Write + OpenFile + Drop> {
     file: FileJournal<F>,
     is_ahead: bool,
+    is_there: bool,
+    is_gone: bool,
     ghost is_synced: { is_ahead ≡ false → IsAllSynced file.asked },
 }
 
@@ -44,6 +47,8 @@ impl<F: Read + Write + OpenFile + Lockable + Drop> DurableJournal<F> {
             Ok(file) => Ok(DurableJournal {
                 file,
                 is_ahead: true,
+                is_there: false,
+                is_gone: false,
             }),
             Err(error) => Err(error),
         }
@@ -73,11 +78,46 @@ impl<F: Read + Write + OpenFile + Lockable + Drop> DurableJournal<F> {
                 let journal = DurableJournal {
                     file,
                     is_ahead: true,
+                    is_there: false,
+                    is_gone: false,
                 };
                 Ok((journal, recovered))
             }
             Err(error) => Err(error),
         }
+    }
+}
+
+impl<F: Write + OpenFile + Drop> DurableJournal<F> {
+    // Looks whether the file is still where it was opened. Once it isn't, it is gone for good.
+    fn look(&mut self) -> Result<(), JournalError>
+        requires { self.old.is_gone ≡ false }
+        ensures there { OnOk result ((self.new.is_there ≡ true) × (self.new.is_gone ≡ false)) }
+        ensures ahead { self.new.is_ahead ≡ self.old.is_ahead }
+        ensures asks { self.new.file.asked ≡ self.old.file.asked }
+        ensures stays { self.new.file.content ≡ self.old.file.content }
+        ensures ok { OnOk result (self.new.file.failures ≡ self.old.file.failures) }
+        ensures err { IsOkUnless result Io
+            × OnErr result (HasGrown self.old.file.failures self.new.file.failures) }
+    {
+        match self.file.look() {
+            Ok(()) => {
+                self.is_there = true;
+                Ok(())
+            }
+            Err(error) => {
+                self.is_there = false;
+                self.is_gone = true;
+                Err(error)
+            }
+        }
+    }
+
+    /// Whether it was found elsewhere, or cut: it fails from then on.
+    pub fn is_gone(&self) -> bool
+        ensures { result ≡ self.now.is_gone }
+    {
+        self.is_gone
     }
 }
 
@@ -88,23 +128,28 @@ impl<F: Write + OpenFile + Drop> Journal for DurableJournal<F> {
 
     ghost asked = { λ j. j.file.asked };
 
-    ghost is_settled = { λ j. IsAllSynced j.file.asked };
+    ghost is_settled = { λ j. IsAllSynced j.file.asked × (j.is_there ≡ true) × (j.is_gone ≡ false) };
 
     fn append(&mut self, bytes: &[u8]) -> Result<(), JournalError> {
         self.is_ahead = true;
+        self.is_there = false;
         self.file.append(bytes)
     }
 
     fn settle(&mut self) -> Result<(), JournalError> {
+        if self.is_gone {
+            return self.file.refuse();
+        }
         if self.is_ahead {
             self.file.sync()?;
             self.is_ahead = false;
         }
-        Ok(())
+        self.look()
     }
 
     fn cut(&mut self, len: u64) -> Result<(), JournalError> {
         self.is_ahead = true;
+        self.is_there = false;
         self.file.cut(len)
     }
 

@@ -1,6 +1,6 @@
 //! A journal in a file.
 
-ghost use Rattle.std.specs.Prelude.{◌≡◌, ◌⊎◌, ◌+◌, [], ◌++◌, length, OnOk, OnErr, IfOk, IfErr, IfSome, IsOkUnless};
+ghost use Rattle.std.specs.Prelude.{◌≡◌, ◌⊎◌, ◌+◌, [], ◌++◌, length, OnOk, OnErr, IfOk, IfErr, IfSome, IsErrOf, IsOkUnless};
 ghost use Rattle.tp_journal.specs.Calls.{AsksOnce, IsSync, IsAllSynced};
 ghost use Rattle.tp_journal.specs.Journal.{HasGrown, failing};
 ghost use Rattle.tp_recovery.specs.Recovery.{HasTail, Recovers};
@@ -60,7 +60,12 @@ impl<F: Write + OpenFile + Drop> Model for FileJournal<F> {
 }
 
 // Opens the file at the path for reading and appending, and takes its lock.
-fn open<R: Files>(rt: &R, path: &str, make: bool) -> Result<CalledFile<R::File>, OpenError>
+fn open<R: Files>(
+    rt: &R,
+    alloc: Global,
+    path: &str,
+    make: bool,
+) -> Result<CalledFile<R::File>, OpenError>
 where
     R::File: Lockable,
     ensures locked { IfOk result (λ file. R.File.is_locked file.file) }
@@ -71,8 +76,12 @@ where
         .append(true)
         .create(make)
         .open(rt, path)?;
-    let file = CalledFile::of(file);
-    file.lock()?;
+    let Ok(place) = file.place(alloc) else {
+        drop(file);
+        return Err(OpenError::OutOfMemory);
+    };
+    let file = CalledFile::of(file, place);
+    file.lock(path)?;
     Ok(file)
 }
 
@@ -114,7 +123,7 @@ impl<F: Read + Write + OpenFile + Lockable + Drop> FileJournal<F> {
             (λ j. (j.failures ≡ 0) × (j.asked ≡ record { opened = j.content; calls = [] })) }
         ensures locked { IfOk result (λ _. (file : F) × F.is_locked file) }
     {
-        let mut file = open(rt, path, make)?;
+        let mut file = open(rt, alloc, path, make)?;
         let copy = file.read_whole(alloc)?;
         Ok(FileJournal {
             kept: Kept::with_copy(file, copy),
@@ -144,7 +153,7 @@ impl<F: Read + Write + OpenFile + Lockable + Drop> FileJournal<F> {
         ensures err { IfOk result (λ opened. IfErr opened.1
             (λ e. (e ≡ Lack) ⊎ IsJournalFault opened.0.content e)) }
     {
-        let mut file = open(rt, path, make)?;
+        let mut file = open(rt, alloc, path, make)?;
         let (content, len, recovered) = recover_from(alloc, &mut file)?;
         let journal = FileJournal {
             kept: Kept::with_len(file, content, len),
@@ -169,6 +178,33 @@ impl<F: Write + OpenFile + Drop> FileJournal<F> {
             self.failures = self.failures.saturating_add(1);
             Err(JournalError::Io)
         }
+    }
+}
+
+impl<F: Write + OpenFile + Drop> FileJournal<F> {
+    /// Looks whether the file is still where it was opened, and no shorter than its content. Where not, that is a failure of the
+    /// device.
+    pub(crate) fn look(&mut self) -> Result<(), JournalError>
+        ensures asks { self.new.asked ≡ self.old.asked }
+        ensures stays { self.new.content ≡ self.old.content }
+        ensures ok { OnOk result (self.new.failures ≡ self.old.failures) }
+        ensures err { IsOkUnless result Io × OnErr result (HasGrown self.old.failures self.new.failures) }
+    {
+        if self.kept.is_there() {
+            Ok(())
+        } else {
+            self.refuse()
+        }
+    }
+
+    /// Counts a failure of the device.
+    pub(crate) fn refuse(&mut self) -> Result<(), JournalError>
+        ensures asks { self.new.asked ≡ self.old.asked }
+        ensures stays { self.new.content ≡ self.old.content }
+        ensures err { IsErrOf result Io × HasGrown self.old.failures self.new.failures }
+    {
+        self.failures = self.failures.saturating_add(1);
+        Err(JournalError::Io)
     }
 }
 

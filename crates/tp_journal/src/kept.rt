@@ -156,6 +156,11 @@ impl<F: JournalFile + Drop> Kept<F> {
         done
     }
 
+    /// Whether the file is still where it was opened, and no shorter than its content.
+    pub(crate) fn is_there(&self) -> bool {
+        self.file.is_there(self.len)
+    }
+
     /// A copy of what the file has. `Io` where none is held, else `OutOfMemory`.
     pub(crate) fn read(&self) -> Result<Vec<u8>, JournalError>
         ensures { IfOk result (λ bytes. bytes.items ≡ file_content self.now) }

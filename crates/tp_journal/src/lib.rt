@@ -29,7 +29,7 @@ pub use null::NullJournal;
 pub use opening::OpenError;
 pub use optional::OptionalJournal;
 pub use read::ReadJournal;
-pub use tp_file::{Lockable, SystemFile, SystemFiles};
+pub use tp_file::{Lockable, Place, SystemFile, SystemFiles};
 pub use tp_recovery::{
     DIGEST_BYTES, HEADER_BYTES, Inspection, MAGIC, Recovered, Recovering, WholeRecord,
     beginnings_recover, cut_appends_recover, header, holds_record, inspect, journals_are_bytes,

@@ -1,10 +1,11 @@
 //! A file whose device fails where a row says so.
 
 use crate::budget::Budget;
+use std::alloc::{AllocError, Global};
 use std::fs::{Metadata, OpenFile, Permissions};
 use std::io;
 use std::io::{Read, Seek, SeekFrom, Write};
-use tp_journal::Lockable;
+use tp_journal::{Lockable, Place};
 
 /// An open file. Each of its calls spends one of the device's.
 #[derive(Drop)]
@@ -75,5 +76,9 @@ impl<F: Lockable> Lockable for Device<'_, F> {
     fn take_lock(&self) -> io::Result<bool> {
         self.budget.spend()?;
         self.file.take_lock()
+    }
+
+    fn place(&self, alloc: Global) -> Result<Place, AllocError> {
+        self.file.place(alloc)
     }
 }

@@ -2,7 +2,7 @@
 
 ghost use Rattle.std.specs.Prelude.{◌≤◌, IfOk};
 
-use std::alloc::{Allocator, Global};
+use std::alloc::{AllocError, Allocator, Global};
 use std::fmt::Display;
 use std::fs::{Metadata, OpenFile, OpenOptions};
 use std::io;
@@ -13,7 +13,7 @@ use std::sync::Wait;
 use std::sync::atomic::{AtomicU64, AtomicUsize, Ordering};
 use std::thread::Threads;
 use std::time::{Clock, Duration};
-use tp_journal::Lockable;
+use tp_journal::{Lockable, Place};
 
 /// A disk that takes a number of writes whole, then a part of one and none after it, and that brings what it took to
 /// its ground a number of times.
@@ -126,6 +126,10 @@ impl<F: Lockable> Lockable for OnDisk<'_, F> {
 
     fn take_lock(&self) -> io::Result<bool> {
         self.file.take_lock()
+    }
+
+    fn place(&self, alloc: Global) -> Result<Place, AllocError> {
+        self.file.place(alloc)
     }
 }
 
