@@ -23,6 +23,10 @@ use tp_store::StoreError;
 
 /// A journal in a file, which is all on the disk once [`settle`](Journal::settle) has answered Ok: many appends take
 /// one sync of the file.
+///
+/// After the sync `settle` looks whether the path still leads to the file, and whether the file is no shorter than the content.
+/// Where not, since another program moved, removed, replaced or cut it, that is a failure of the device, and so is each
+/// later `settle`.
 #[derive(Drop)]
 pub struct DurableJournal<F: Write + OpenFile + Drop> {
     file: FileJournal<F>,
@@ -93,6 +97,7 @@ impl<F: Write + OpenFile + Drop> DurableJournal<F> {
     fn look(&mut self) -> Result<(), JournalError>
         requires { self.old.is_gone ≡ false }
         ensures there { OnOk result ((self.new.is_there ≡ true) × (self.new.is_gone ≡ false)) }
+        ensures gone { OnErr result (self.new.is_gone ≡ true) }
         ensures ahead { self.new.is_ahead ≡ self.old.is_ahead }
         ensures asks { self.new.file.asked ≡ self.old.file.asked }
         ensures stays { self.new.file.content ≡ self.old.file.content }
@@ -113,7 +118,7 @@ impl<F: Write + OpenFile + Drop> DurableJournal<F> {
         }
     }
 
-    /// Whether it was found elsewhere, or cut: it fails from then on.
+    /// Whether the file was found moved, removed, replaced or cut. Each later [`settle`](Journal::settle) is refused then.
     pub fn is_gone(&self) -> bool
         ensures { result ≡ self.now.is_gone }
     {
