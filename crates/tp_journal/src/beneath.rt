@@ -40,7 +40,7 @@ pub(crate) trait JournalFile {
     fn sync(&mut self) -> bool
         ensures { calls self.new ≡ Sync result ∷ calls self.old };
 
-    /// Whether it is still where it was opened, and has at least so many bytes.
+    /// Whether it is still where it was opened, and has at least `least` bytes.
     fn is_there(&self, least: u64) -> bool;
 }
 
