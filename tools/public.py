@@ -5,10 +5,10 @@ The crates that are tests or benchmarks are left out. The bodies of functions an
 import re
 from collections import defaultdict
 from functools import cached_property
-from pathlib import Path
 
-from logic import imports_and_passed_on, imports_of, items_of, module_of, plain
-from terms import NAME, Term, partners, rust
+from logic import imports_of, plain
+from source import Source, Specs, generics_end, split, use_tree
+from terms import NAME, Term
 
 IS_READ = re.compile(r"crates/(?!tp_test|tp_bench)\w+/(?:src/.*\.rt|specs/.*\.antt)\Z")
 PRELUDE = "std.specs.Prelude"
@@ -16,8 +16,8 @@ PRELUDE = "std.specs.Prelude"
 CONSTRUCTORS = {"true", "false", "zero", "suc", "tt", "pos", "negsuc", "inl", "inr"}
 INFIX = re.compile(r"^(infix[lr]? \d+) (\S+)", re.M)
 TYPES = ("struct", "enum", "union", "trait", "type", "const", "static")
-# What of an attribute is promised. What an error prints is not.
 KEYWORDS = set("fn mut dyn impl for where const as Self self pub crate unsafe extern struct enum trait type static ref in".split())
+# What of an attribute is promised. What an error prints is not.
 ATTRIBUTES = ("derive", "repr", "must_use", "non_exhaustive", "unsafe")
 
 
@@ -27,11 +27,11 @@ def is_key(token):
 
 
 class Item:
-    """Something that is compared: its key, where it is, its parts, each with a label, its tokens and its text, and the
+    """Something that is compared: its key, what it is called, its parts, each with a label, its tokens and its text, and the
     names of its members in order."""
 
-    def __init__(self, key, path, title, members=()):
-        self.key, self.path, self.title, self.members, self.parts = key, path, title, list(members), []
+    def __init__(self, key, title, members=()):
+        self.key, self.title, self.members, self.parts = key, title, list(members), []
 
     def add(self, label, tokens, text):
         self.parts.append((label, tuple(tokens), " ".join(text.split())))
@@ -47,39 +47,6 @@ class Item:
         return tuple(tuple(token[-1] if is_key(token) else token for token in tokens) for _, tokens, _ in self.parts)
 
 
-class Source:
-    """A file of src/ or a part of one: its tokens, and what is declared there."""
-
-    def __init__(self, path, text):
-        self.path, self.text = path, text
-        self.crate = path.split("/")[1]
-        inner = Path(path).relative_to(f"crates/{self.crate}/src").with_suffix("").parts
-        self.module = () if inner in (("lib",), ("main",)) else inner
-        placed = rust(text)
-        self.tokens = [token for token, _, _ in placed]
-        self.places = [(start, end) for _, start, end in placed]
-        self.close = partners(self.tokens)
-        self.found = []
-
-    def text_of(self, at, end):
-        """The text from one token up to another one."""
-        return self.text[self.places[at][0]:self.places[end - 1][1]] if at < end else ""
-
-    def inside(self, at):
-        """The text between two brackets."""
-        return self.text[self.places[at][1]:self.places[self.close[at]][0]]
-
-
-class Found:
-    """An item of a source as it is written: its word, name and attributes, where it begins, where its head ends, what is in
-    its braces, and the module and `impl` or trait that it is in."""
-
-    def __init__(self, word, name, is_public, attributes, at, head, inner, holder, module):
-        self.word, self.name, self.is_public, self.attributes = word, name, is_public, attributes
-        self.at, self.head, self.inner, self.holder, self.module = at, head, inner, holder, module
-        self.clauses, self.found = [], []
-
-
 def keys_in(token):
     """The items that are named in a token, or in the tokens of a type."""
     if not isinstance(token, tuple):
@@ -89,154 +56,45 @@ def keys_in(token):
     return [key for each in token for key in keys_in(each)]
 
 
-def split(tokens, close, at, end, sign=","):
-    """The parts from here to the end between signs that are in no bracket, those of generics included."""
-    depth, start, parts = 0, at, []
-    while at < end:
-        token = tokens[at]
-        depth += (token == "<") - (token == ">")
-        if token == sign and depth <= 0:
-            parts.append((start, at))
-            start = at + 1
-        at = close[at] + 1 if at in close else at + 1
-    return [(a, b) for a, b in parts + [(start, end)] if a < b]
-
-
-def generics_end(tokens, at):
-    """Where what is between `<` here and its `>` ends."""
-    depth = 0
-    while at < len(tokens):
-        depth += (tokens[at] == "<") - (tokens[at] == ">")
-        at += 1
-        if not depth:
-            break
-    return at
-
-
-class Scan:
-    """Finds the items of a source."""
-
-    def __init__(self, source):
-        self.source, self.tokens, self.close = source, source.tokens, source.close
-
-    def items(self, at, end, holder, module):
-        found = []
-        while at < end:
-            attributes = []
-            while at < end and self.tokens[at] == "#":
-                opened = at + 1 + (self.tokens[at + 1] == "!")
-                attributes.append(self.source.inside(opened))
-                at = self.close[opened] + 1
-            if at < end:
-                item, at = self.item(at, end, attributes, holder, module)
-                if item and not any(a.startswith(("cfg(test", "test")) for a in attributes):
-                    found.append(item)
-        return found
-
-    def item(self, at, end, attributes, holder, module):
-        """The item that begins here, or None for what is no item; and where it ends."""
-        start, is_public = at, self.tokens[at] == "pub" and self.tokens[at + 1] != "("
-        if self.tokens[at] == "pub":
-            at = self.close[at + 1] + 1 if self.tokens[at + 1] == "(" else at + 1
-        while at < end and (self.tokens[at] in ("unsafe", "extern", "default") or self.tokens[at][0] == '"'
-                            or self.tokens[at] == "const" and self.tokens[at + 1] in ("fn", "unsafe", "extern")):
-            at += 1
-        word, name = self.tokens[at], self.tokens[at + 1] if at + 1 < end else ""
-        item = Found(word, name, is_public, attributes, start, at, None, holder, module)
-        if word == "fn":
-            return item, self.function(item, at, end)
-        if word == "ghost" and name != "use":
-            return item, self.ghost(item, at, end)
-        while at < end and self.tokens[at] not in ("{", ";"):
-            at = self.close[at] + 1 if at in self.close else at + 1
-        if word in ("const", "static", "use", "ghost"):
-            while at < end and self.tokens[at] != ";":
-                at = self.close[at] + 1 if at in self.close else at + 1
-        item.head = at
-        if at >= end or self.tokens[at] == ";":
-            return item, at + 1
-        item.inner = at
-        if word in ("impl", "trait"):
-            item.found = self.items(at + 1, self.close[at], item, module)
-        elif word == "mod":
-            item.found = self.items(at + 1, self.close[at], holder, (*module, name))
-        return item, self.close[at] + 1
-
-    def function(self, item, at, end):
-        """Reads a function's clauses. Where its body ends."""
-        while at < end and self.tokens[at] not in ("{", ";", "requires", "ensures", "ghost"):
-            at = self.close[at] + 1 if at in self.close else at + 1
-        item.head = at
-        while at < end and self.tokens[at] in ("requires", "ensures", "ghost"):
-            opened = next(place for place in range(at, end) if self.tokens[place] == "{")
-            item.clauses.append((self.source.text_of(at, opened), opened))
-            at = self.close[opened] + 1
-        return self.close[at] + 1 if at < end and self.tokens[at] == "{" else at + 1
-
-    def ghost(self, item, at, end):
-        """Reads a ghost member: its type, its value, or both. Where it ends."""
-        item.head = at + 2
-        while at < end and self.tokens[at] not in (";", ","):
-            if self.tokens[at] == "by":
-                at = self.close[at + 1]
-            elif at in self.close:
-                item.clauses.append((self.tokens[at - 1], at))
-                at = self.close[at]
-            at += 1
-        return at + 1
-
-
-def use_tree(tokens, close, at, end, before=()):
-    """What a `use` brings in: each name with its path."""
-    path = list(before)
-    while at < end:
-        if tokens[at] == "{":
-            for a, b in split(tokens, close, at + 1, close[at]):
-                yield from use_tree(tokens, close, a, b, path)
-            return
-        if tokens[at] == "as":
-            yield tokens[at + 1], tuple(path)
-            return
-        if tokens[at] != "::" and not (tokens[at] == "self" and path):
-            path.append(tokens[at])
-        at += 1
-    yield path[-1], tuple(path)
-
-
 class Tree:
     """A tree's items by their keys."""
 
     def __init__(self, texts, like=None):
-        self.texts, self.parsed = texts, like.parsed if like else {}
+        self.parsed = like.parsed if like else {}
         self.items, self.leaves, self.read = {}, [], {}
         self.crates = {path.split("/")[1] for path in texts}
         self.modules, self.uses, self.shown, self.members = defaultdict(dict), defaultdict(dict), defaultdict(dict), {}
-        specs = {Path(path): re.sub(r"(?<!\S)--(?!\S).*", "", text) for path, text in texts.items() if path.endswith(".antt")}
-        self.imports, self.passed_on = imports_and_passed_on(specs)
-        self.sources = [self.source(path, text) for path, text in texts.items() if path.endswith(".rt")]
-        for source in self.sources:
-            self.declare(source, source.found, source.module)
-        for path, text in specs.items():
-            self.declare_specs(path, text)
+        self.imports, self.passed_on = {}, {}
+        files = {(path, text): self.file(path, text) for path, text in texts.items()}
+        for file in files.values():
+            if isinstance(file, Specs):
+                self.declare_specs(file)
+            else:
+                self.declare(file, file.found, file.module)
         self.exported = self.exports()
         self.names = [self.crates, self.members, self.imports, self.passed_on, self.exported,
                       *({place: dict(names) for place, names in table.items() if names} for table in (self.modules, self.uses))]
-        self.read_all(specs, like.read if like and like.names == self.names else {})
+        self.read_all(files, like.read if like and like.names == self.names else {})
         self.keep_reached()
 
-    def read_all(self, specs, before):
+    def file(self, path, text):
+        """A file, which is taken apart once for all trees that have it."""
+        if (path, text) not in self.parsed:
+            self.parsed[path, text] = Specs(path, text) if path.endswith(".antt") else Source(path, text)
+        return self.parsed[path, text]
+
+    def read_all(self, files, before):
         """Reads each file; one that was read in another tree, whose names mean what they mean here, isn't read again."""
-        sources = {source.path: source for source in self.sources}
-        for path, text in self.texts.items():
-            made = before.get((path, text))
-            if made is None:
-                self.items, self.leaves = {}, []
-                if path in sources:
-                    Reading(self, sources[path]).all(sources[path].found)
-                else:
-                    self.read_specs(Path(path), specs[Path(path)])
-                made = self.items, self.leaves
-            self.read[path, text] = made
+        for key, file in files.items():
+            if key in before:
+                self.read[key] = before[key]
+                continue
+            self.items, self.leaves = {}, []
+            if isinstance(file, Specs):
+                self.read_specs(file)
+            else:
+                Reading(self, file).all(file.found)
+            self.read[key] = self.items, self.leaves
         self.items = {key: item for items, _ in self.read.values() for key, item in items.items()}
         self.leaves = [leaf for _, leaves in self.read.values() for leaf in leaves]
 
@@ -259,21 +117,13 @@ class Tree:
         self.items = {key: item for key, item in self.items.items() if key in reached}
         self.leaves = [leaf for leaf in self.leaves if leaf.key[0] == "fn" or reached.issuperset(keys_in(leaf.key[1][1]))]
 
-    def source(self, path, text):
-        """A source, which is scanned once for all trees that have it."""
-        if (path, text) not in self.parsed:
-            made = Source(path, text)
-            made.found = Scan(made).items(0, len(made.tokens), None, made.module)
-            self.parsed[path, text] = made
-        return self.parsed[path, text]
-
     # ---- what is declared where
 
     def declare(self, source, found, module):
         place = source.crate, module
         for item in found:
             if item.word == "use":
-                uses = dict(use_tree(source.tokens, source.close, item.at + (source.tokens[item.at] == "pub") * (item.is_public or 4) + 1, item.head))
+                uses = dict(use_tree(source.tokens, source.close, item.named, item.head))
                 self.uses[place].update(uses)
                 if item.is_public:
                     self.shown[place].update(uses)
@@ -303,15 +153,16 @@ class Tree:
             names.append(source.tokens[at + (source.tokens[at] == "ghost")])
         return names
 
-    def declare_specs(self, path, text):
-        module = module_of(path)
-        for name, (_, body) in items_of(path, text).items():
-            key = ("def", module, name)
-            self.modules[module][name] = key
-            is_data, is_record = re.match(r"\s*(pub )?data ", body), re.match(r"\s*(pub )?record ", body)
-            self.members[key] = re.findall(r"^  (?:pub )?([^\s:()]+) :", body, re.M) if is_data or is_record else []
-            if is_data:
-                self.modules[module].update({member: ("member", key, member) for member in self.members[key]})
+    def declare_specs(self, file):
+        self.imports[file.module] = file.imports
+        self.passed_on.update(file.passed_on)
+        for name, (_, body) in file.items.items():
+            key = ("def", file.module, name)
+            self.modules[file.module][name] = key
+            has_members = re.match(r"\s*(?:pub )?(?:data|record) ", body)
+            self.members[key] = re.findall(r"^  (?:pub )?([^\s:()]+) :", body, re.M) if has_members else []
+            if has_members and "data" in has_members[0]:
+                self.modules[file.module].update({member: ("member", key, member) for member in self.members[key]})
 
     def exports(self):
         """The types and functions that are reached from a crate's root, by their keys."""
@@ -386,9 +237,10 @@ class Tree:
         owner = ("type", crate, tuple(path[:-1]), path[-1] if path else name)
         return owner if not path or path[-1] == name else ("member", owner, name)
 
-    def meaning(self, name, member, imports, module=None, place=None, in_pattern=False):
-        """What a name of a term means and whether the member after it is part of that, or None where it means nothing here."""
-        meant = None
+    def meaning(self, name, member, scope, in_pattern):
+        """What a name of a term means and whether the member after it is part of that, or None where it means nothing here. The
+        scope is what is imported there, and the module of antt or the place in src/ where the term is."""
+        (imports, module, place), meant = scope, None
         if name in imports:
             there, item = imports[name]
             if item is None:
@@ -414,23 +266,21 @@ class Tree:
         if not in_pattern:
             return True
         if isinstance(meant, tuple):
-            return meant[0] in ("member", "def", "type") and meant[0] != "def"
+            return meant[0] in ("member", "type")
         name = meant.split(":")[-1]
         return not name[0].islower() or name in CONSTRUCTORS
 
     # ---- specs/
 
-    def read_specs(self, path, text):
-        module = module_of(path)
-        imports = self.imports[module]
-        infix = {plain(name): word for word, name in INFIX.findall(text)}
-        for name, (_, body) in items_of(path, text).items():
-            key = self.modules[module][name]
-            item = Item(key, str(path), f"{module} {name}", self.members[key])
+    def read_specs(self, file):
+        scope = file.imports, file.module, None
+        infix = {plain(name): word for word, name in INFIX.findall(file.text)}
+        for name, (_, body) in file.items.items():
+            key = ("def", file.module, name)
+            item = Item(key, f"{file.module} {name}", self.members[key])
+
             def meaning(word, member, in_pattern, key=key, name=name):
-                if in_pattern and word == name:
-                    return key, False
-                return self.meaning(word, member, imports, module, None, in_pattern)
+                return (key, False) if in_pattern and word == name else self.meaning(word, member, scope, in_pattern)
 
             if name in infix:
                 item.add("infix", infix[name].split(), infix[name])
@@ -495,8 +345,8 @@ class Reading:
 
     def term(self, item, imports=None):
         """A reader of terms for the clauses of an item."""
-        imports, place = self.imports if imports is None else imports, (self.source.crate, item.module)
-        return Term(lambda name, member, in_pattern: self.tree.meaning(name, member, imports, None, place, in_pattern))
+        scope = self.imports if imports is None else imports, None, (self.source.crate, item.module)
+        return Term(lambda name, member, in_pattern: self.tree.meaning(name, member, scope, in_pattern))
 
     def title(self, item, owner=""):
         return "::".join((self.source.crate, *item.module, *([owner] if owner else []), item.name))
@@ -513,7 +363,7 @@ class Reading:
         return end
 
     def signature(self, at, end, term, module):
-        """The tokens of a signature or of a part of one, with what their names mean."""
+        """The tokens of a signature or of a part of one, with what their names mean. What a variant calls its parts is bound."""
         out = []
         while at < end:
             token = self.tokens[at]
@@ -522,7 +372,9 @@ class Reading:
                 out.append(term.names[token])
             elif not NAME.match(token) or token in KEYWORDS:
                 out.append(token)
-            elif after in ("=", ":") and self.tokens[at - 1] in ("<", ",", "{", "pub", ")"):
+            elif after == ":" and self.tokens[at - 1] in ("{", ","):
+                out.append(term.bind(token, {}))
+            elif after == "=" and self.tokens[at - 1] in ("<", ","):
                 out.append("." + token)
             elif self.tokens[at - 1] == "::":
                 out.append("." + token)
@@ -561,27 +413,18 @@ class Reading:
     def type(self, item):
         key = self.key("type", item)
         members = self.tree.members[key]
-        made = Item(key, self.source.path, self.title(item), members)
+        made = Item(key, self.title(item), members)
         words = [*(["public"] if key in self.tree.exported else []), *self.attributes(item)]
         made.add("attributes", words, ", ".join(words))
         term = self.term(item)
         if item.word == "trait":
             self.trait(item, made, term, key)
         else:
-            after = self.generics(item.at + self.after_word(item), term)
-            start = item.at + self.after_word(item)
-            made.add(item.word, [item.word, *self.signature(start, item.head, term, item.module)], self.source.text_of(item.at, item.head))
-            assert after <= item.head
+            self.generics(item.named + 1, term)
+            made.add(item.word, [item.word, *self.signature(item.named + 1, item.head, term, item.module)], self.source.text_of(item.at, item.head))
             if item.inner is not None:
                 self.fields(item, made, term)
         self.tree.items[key] = made
-
-    def after_word(self, item):
-        """How many tokens an item has up to its name, and with it."""
-        place = item.at
-        while self.tokens[place] != item.name:
-            place += 1
-        return place + 1 - item.at
 
     def fields(self, item, made, term):
         """The fields of a struct, ghost ones too, or the variants of an enum."""
@@ -601,12 +444,11 @@ class Reading:
                 opened = next(place for place in range(at, end) if self.tokens[place] == "{")
                 made.add(member, [*words, *inner.within().read(self.source.inside(opened))], text)
             else:
-                made.add(member, [*words, *self.signature(at + 1, end, term, item.module)], text)
+                made.add(member, [*words, *self.signature(at + 1, end, term.within(), item.module)], text)
 
     def trait(self, item, made, term, key):
-        start = item.at + self.after_word(item)
-        self.generics(start, term)
-        head = ["trait", *self.signature(start, item.head, term, item.module)]
+        self.generics(item.named + 1, term)
+        head = ["trait", *self.signature(item.named + 1, item.head, term, item.module)]
         made.add("trait", head, self.source.text_of(item.at, item.head))
         for name in made.members:
             term.names[name] = ("member", key, name)
@@ -623,16 +465,15 @@ class Reading:
     def member(self, item, term):
         """The tokens of a ghost member, an associated type or a constant."""
         if item.word != "ghost":
-            return [item.word, *self.signature(item.at + 2, item.head, term, item.module)]
+            return [item.word, *self.signature(item.named + 1, item.head, term, item.module)]
         return [token for sign, opened in item.clauses for token in (sign, *term.within().read(self.source.inside(opened)))]
 
     def implementation(self, item):
         """The members of an `impl` and its public functions; those of a trait's where they have clauses of their own."""
         outer, term = self.term(item), self.term(item, {**self.imports, **self.imports_in(item.found)})
-        start = item.at + self.tokens[item.at:item.head].index("impl") + 1
-        outer_start = self.generics(start, outer)
+        outer_start = self.generics(item.named, outer)
         term.names, term.count = outer.names, outer.count
-        head = self.signature(start, item.head, outer, item.module)
+        head = self.signature(item.named, item.head, outer, item.module)
         at_for = next((at for at in range(outer_start, item.head) if self.tokens[at] == "for" and self.tokens[at + 1] != "<"), None)
         trait = self.owner(outer_start, at_for, outer, item) if at_for else None
         owner = self.owner(at_for + 1 if at_for else outer_start, item.head, outer, item)
@@ -660,7 +501,7 @@ class Reading:
         trait = owner[0][0]
         for member in self.tree.members.get(trait, ()):
             term.names.setdefault(member, ("member", trait, member))
-        made = Item(("impl", owner), self.source.path, f"{self.source.crate}: impl {name}")
+        made = Item(("impl", owner), f"{self.source.crate}: impl {name}")
         made.add("impl", head, f"impl {name}")
         for each in item.found:
             if each.word in ("type", "const") or each.word == "ghost" and each.name != "use":
@@ -670,12 +511,11 @@ class Reading:
 
     def function(self, item, term, owner, name, head=()):
         """A function's signature and its clauses."""
-        made = Item(("fn", owner, item.name), self.source.path, self.title(item, name))
-        at = item.at + self.after_word(item)
+        made = Item(("fn", owner, item.name), self.title(item, name))
         start = item.at + (self.tokens[item.at] == "pub")
-        words = [*head, "fn", *self.tokens[start:at - 2]]
-        opened = self.generics(at, term)
-        generics = self.signature(at, opened, term, item.module)
+        words = [*head, *self.tokens[start:item.named]]
+        opened = self.generics(item.named + 1, term)
+        generics = self.signature(item.named + 1, opened, term, item.module)
         parameters, after = self.parameters(opened, term, item.module)
         made.add("signature", [*self.attributes(item), *words, *generics, *parameters, *self.signature(after, item.head, term, item.module)],
                  f"{name}: {self.source.text_of(item.at, item.head)}")

@@ -91,25 +91,28 @@ class Renaming:
         if not isinstance(token, tuple) or not token:
             return token
         if token[0] in ITEMS:
-            return self.there.get(token, ("gone", token))
+            return self.there.get(token, ("gone", token) if token in self.old.items else token)
         if token[0] == "member" and len(token) == 3:
             return ("member", self.mapped(token[1]), self.fields.get(token[1], {}).get(token[2], token[2]))
         return token if token[0] == "mod" else tuple(self.mapped(each) for each in token)
 
     def leaves_by_key(self, is_same=lambda a, b: a.shape == b.shape):
-        """The functions and `impl`s that are of one type and have one name, those only before, and those only after."""
+        """The functions and `impl`s that are of one type and have one name, those only before, and those only after. Of several the
+        same ones are pairs first."""
         after = defaultdict(list)
         for leaf in self.new.leaves:
             after[leaf.key].append(leaf)
-        found, left = [], []
-        for leaf in self.old.leaves:
-            there = after[self.mapped(leaf.key)]
-            best = next((other for other in there if len(there) == 1 or is_same(leaf, other)), there[0] if there else None)
-            if best:
-                there.remove(best)
-                found.append((leaf, best))
-            else:
-                left.append(leaf)
+        found, left = [], self.old.leaves
+        for fits in (is_same, lambda a, b: True):
+            waits, left = left, []
+            for leaf in waits:
+                there = after[self.mapped(leaf.key)]
+                best = next((other for other in there if fits(leaf, other)), None)
+                if best:
+                    there.remove(best)
+                    found.append((leaf, best))
+                else:
+                    left.append(leaf)
         return found, left, [leaf for leaves in after.values() for leaf in leaves]
 
     def leaves(self):
@@ -132,6 +135,9 @@ class Renaming:
         """What each member is called in the new tree, once the items are pairs."""
         self.fields = {key: self.members_of(key) for key in self.there}
         self.named, self.taken, self.fit = defaultdict(set), defaultdict(set), {}
+        # Where no name differs, what is the same object in both trees is the same.
+        self.is_plain = self.old.items.keys() == self.new.items.keys() and all(key == there for key, there in self.there.items()) \
+            and all(name == other for names in self.fields.values() for name, other in names.items())
         for key, there in self.there.items():
             for name in self.old.members.get(key, ()):
                 self.named[name].add(key)
@@ -167,6 +173,8 @@ class Renaming:
         return len(part[1]) == len(other[1]) and all(map(self.fits, part[1], other[1]))
 
     def is_same(self, item, other):
+        if item is other and self.is_plain:
+            return True
         return len(item.parts) == len(other.parts) and all(map(self.is_same_part, item.parts, other.parts)) and self.in_order(item, other)
 
     def in_order(self, item, other):
