@@ -26,6 +26,11 @@ def is_key(token):
     return isinstance(token, tuple) and len(token) > 1 and token[0] in ("def", "type", "member")
 
 
+def owner(key):
+    """The item that a name means, or that has the member which it means."""
+    return key[1] if key[0] == "member" else key
+
+
 class Item:
     """Something that is compared: its key, what it is called, its parts, each with a label, its tokens and its text, and the
     names of its members in order."""
@@ -40,6 +45,11 @@ class Item:
     def shape(self):
         """What it says without its names."""
         return tuple(tuple("#" if is_key(token) else token for token in tokens) for _, tokens, _ in self.parts)
+
+    @cached_property
+    def owners(self):
+        """The items that it names."""
+        return frozenset(owner(token) for _, tokens, _ in self.parts for token in tokens if is_key(token))
 
     @cached_property
     def spelling(self):

@@ -1,16 +1,11 @@
 """The names that one tree has for those of another one, and what differs between the two beside these."""
 from collections import Counter, defaultdict
 
-from public import is_key
+from public import is_key, owner
 
 ITEMS = ("def", "type")
 # Fields of std, whose names nobody changes.
 OF_STD = {"now", "old", "new", "entry", "exit", "inside", "items"}
-
-
-def owner(key):
-    """The item that a name means, or that has the member which it means."""
-    return key[1] if key[0] == "member" else key
 
 
 class Renaming:
@@ -63,7 +58,10 @@ class Renaming:
         found = any(self.left())
         while found:
             votes = Counter()
-            for item, other in [(self.old.items[key], self.new.items[there]) for key, there in self.there.items()] + self.leaves_by_key()[0]:
+            pairs = [(self.old.items[key], self.new.items[there]) for key, there in self.there.items()] + self.leaves_by_key()[0]
+            for item, other in pairs:
+                if item.owners <= self.there.keys():
+                    continue
                 for (_, tokens, _), (_, others, _) in zip(item.parts, other.parts):
                     if len(tokens) == len(others):
                         votes.update((owner(a), owner(b)) for a, b in zip(tokens, others) if is_key(a) and is_key(b))
