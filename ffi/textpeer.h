@@ -433,8 +433,10 @@ uint32_t tp_receive(tp_handle *handle, size_t link, const uint8_t *bytes, size_t
  * `textpeer` command has that may write the file; each change is on the disk before the call that made it is done, and before a
  * session answers for it. The calls above take it too, and those below take a handle in memory: some have two names.
  *
- * After TP_PEER_JOURNAL_FAILED (502) an editor edits and exchanges no more: such calls are refused as 503. What it
- * has is still read; close it, and open it under another actor.
+ * TP_PEER_JOURNAL_FAILED (502) says that the journal can't be written any more, or that its path doesn't lead to it any more,
+ * since the file was moved, removed, replaced or cut. What the call was given isn't kept then for sure. From then on the editor
+ * edits and exchanges no more: such calls are refused as 503. What it has is still read; close it, put the file back or make
+ * room, and open it under another actor.
  */
 
 typedef tp_handle tp_shared;
