@@ -404,7 +404,7 @@ local function moved_journals()
       return editor:lua("return require('textpeer').statusline()") == 'stopped'
     end)
     local text = editor:told()
-    check(text == path .. " is no longer shared (JournalFailed, the journal can't be written any more, or was moved, removed, replaced or"
+    check(text == 'textpeer: ' .. path .. " is no longer shared (JournalFailed, the journal can't be written any more, or was moved, removed, replaced or"
       .. ' cut). What you type stays in view and is kept nowhere: save it by :saveas FILE, or put the journal back or make room, and'
       .. ' :TextpeerOpen it again, which takes what you typed', what .. ': told is ' .. vim.inspect(text))
     said(editor, 'TextpeerStatus', 'stopped   JournalFailed, the journal')
