@@ -234,5 +234,6 @@ def report(renaming):
             lines.append(f"{'moved' if key[-1] == there[-1] else 'renamed'}: {place(key)} -> {place(there)}")
         lines += [f"renamed: {place(key)} .{name} -> .{other}" for name, other in renaming.fields[key].items() if name != other]
     lines += [f"renamed: {item.title} -> {other.title}" for item, other in leaves if item.key[0] == "fn" and item.key[-1] != other.key[-1]]
-    lines.append(f"{same} the same but for names, {differ} differ in more, {len(before) + len(left)} only before, {len(after) + len(alone)} only after")
-    return lines, 1 if differ or before or left or after or alone else 0
+    removed, added = len(before) + len(left), len(after) + len(alone)
+    lines.append(f"{same} the same but for names, {differ} differ in more, {removed} only before, {added} only after")
+    return lines, 1 if differ or removed or added else 0
