@@ -63,13 +63,20 @@ class Renaming:
                 if item.owners <= self.there.keys():
                     continue
                 for (_, tokens, _), (_, others, _) in zip(item.parts, other.parts):
-                    if len(tokens) == len(others):
-                        votes.update((owner(a), owner(b)) for a, b in zip(tokens, others) if is_key(a) and is_key(b))
+                    votes.update(self.places(tokens, others))
             found = False
             for (a, b), _ in sorted(votes.items(), key=lambda vote: (-vote[1], vote[0][0] != vote[0][1], vote[0])):
                 if a[0] == b[0] and self.may_pair(a, b):
                     self.pair(a, b)
                     found = True
+
+    def places(self, tokens, others):
+        """What is in one place of two parts; where one is longer, the names without a pair that they have, if these are as many."""
+        if len(tokens) == len(others):
+            return [(owner(a), owner(b)) for a, b in zip(tokens, others) if is_key(a) and is_key(b)]
+        before = dict.fromkeys(owner(a) for a in tokens if is_key(a) and owner(a) not in self.there)
+        after = dict.fromkeys(owner(b) for b in others if is_key(b) and owner(b) not in self.back)
+        return list(zip(before, after)) if len(before) == len(after) else []
 
     def changed_places(self):
         """The items whose names others of them have now, in a ring."""
@@ -186,8 +193,10 @@ class Renaming:
             found = [(a, b) for a, b in zip(item.parts, other.parts) if not self.is_same_part(a, b)]
             if found:
                 return [a[2] for a, _ in found], [b[2] for _, b in found]
-        before = [part for part in item.parts if not any(self.is_same_part(part, each) for each in other.parts)]
-        after = [part for part in other.parts if not any(self.is_same_part(each, part) for each in item.parts)]
+        names = self.fields.get(item.key, {})
+        same = [(a, b) for a in item.parts for b in other.parts if names.get(a[0], a[0]) == b[0] and self.is_same_part(a, b)]
+        before = [part for part in item.parts if not any(part is a for a, _ in same)]
+        after = [part for part in other.parts if not any(part is b for _, b in same)]
         if not before and not after:
             before, after = item.parts, other.parts
         return [part[2] for part in before], [part[2] for part in after]
@@ -225,5 +234,6 @@ def report(renaming):
             lines.append(f"{'moved' if key[-1] == there[-1] else 'renamed'}: {place(key)} -> {place(there)}")
         lines += [f"renamed: {place(key)} .{name} -> .{other}" for name, other in renaming.fields[key].items() if name != other]
     lines += [f"renamed: {item.title} -> {other.title}" for item, other in leaves if item.key[0] == "fn" and item.key[-1] != other.key[-1]]
-    lines.append(f"{same} the same but for names, {differ} differ in more, {len(before) + len(left)} only before, {len(after) + len(alone)} only after")
-    return lines, 1 if differ or before or left or after or alone else 0
+    removed, added = len(before) + len(left), len(after) + len(alone)
+    lines.append(f"{same} the same but for names, {differ} differ in more, {removed} only before, {added} only after")
+    return lines, 1 if differ or removed or added else 0
