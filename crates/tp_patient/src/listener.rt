@@ -18,8 +18,8 @@ const MOMENT: u64 = 20;
 
 /// Who is told why a listener accepts nothing more.
 pub trait Witness {
-    /// The system refused for a reason that doesn't pass.
-    fn ended(&self, error: &io::Error);
+    /// The system refused for a reason that doesn't pass. The listener is at the address, as far as the system says.
+    fn ended(&self, at: io::Result<SocketAddr>, error: &io::Error);
 }
 
 /// A listener over another one, which accepts while more places are free than are kept back for further handles of its streams.
@@ -59,7 +59,7 @@ impl<'a, L: OpenListener, K: Ledger, R: Wait + Clock, W: Witness> Patient<'a, L,
                 Ok(accepted) => return Ok(accepted),
                 Err(error) => {
                     if !is_passing(&error) {
-                        self.witness.ended(&error);
+                        self.witness.ended(self.listener.local_addr(), &error);
                         return Err(error);
                     }
                 }

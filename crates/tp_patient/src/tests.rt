@@ -84,7 +84,7 @@ impl<'a> OpenListener for Scarce<'a> {
 struct Heard(Cell<Option<i32>>);
 
 impl Witness for Heard {
-    fn ended(&self, error: &io::Error) {
+    fn ended(&self, _at: io::Result<SocketAddr>, error: &io::Error) {
         self.0.set(error.raw_os_error());
     }
 }
