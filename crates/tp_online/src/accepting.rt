@@ -5,11 +5,11 @@ use std::net::SocketAddr;
 use tp_patient::Witness;
 use tp_web::MOST_OPEN;
 
-/// A server has so many places, for connections and for the further handle that each session has: some 700 of the 1,024 descriptors
-/// that a process usually has.
+/// A server has this many places, for connections and for the further handle that each session has: some 700 of the 1,024
+/// descriptors that a process usually has.
 pub(crate) const SERVE_PLACES: u64 = 700;
 
-/// A page and the sessions beside it have so many places together.
+/// A page and the sessions beside it have this many places together.
 pub(crate) const WEB_PLACES: u64 = 960;
 
 /// This many sessions are held at once beside a page.
@@ -26,7 +26,7 @@ pub(crate) struct Teller<'a, R> {
 }
 
 impl<R: Eprint + AllocGlobal> Witness for Teller<'_, R> {
-    fn ended(&self, at: io::Result<SocketAddr>, error: &io::Error) {
+    fn report_end(&self, at: io::Result<SocketAddr>, error: &io::Error) {
         let line = match at {
             Ok(at) => format!(in self.rt.alloc(); "{at} accepts no more: {error}\n"),
             Err(_) => format!(in self.rt.alloc(); "a listener accepts no more: {error}\n"),

@@ -162,7 +162,16 @@ where
     match seat_peer(rt.alloc(), peer, MAX_SEATS) {
         Ok((served, seats)) => {
             let server = server_of(rt, hosting);
-            match take_part(rt, rt.alloc(), &patient, &server, hosting, &served, seats, key) {
+            match take_part(
+                rt,
+                rt.alloc(),
+                &patient,
+                &server,
+                hosting,
+                &served,
+                seats,
+                key,
+            ) {
                 Ok(back) => Ok(end_serving(served, back)?),
                 Err(error) => Err(error),
             }

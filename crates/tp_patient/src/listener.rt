@@ -16,10 +16,10 @@ use std::{io, thread};
 // After a refusal that may pass it waits this many milliseconds.
 const MOMENT: u64 = 20;
 
-/// Who is told why a listener accepts nothing more.
+/// Who learns why a listener accepts nothing more.
 pub trait Witness {
     /// The system refused for a reason that doesn't pass. The listener is at the address, as far as the system says.
-    fn ended(&self, at: io::Result<SocketAddr>, error: &io::Error);
+    fn report_end(&self, at: io::Result<SocketAddr>, error: &io::Error);
 }
 
 /// A listener over another one, which accepts while more places are free than are kept back for further handles of its streams.
@@ -33,7 +33,7 @@ pub struct Patient<'a, L: OpenListener, K: Ledger, R: Wait + Clock, W: Witness> 
 }
 
 impl<'a, L: OpenListener, K: Ledger, R: Wait + Clock, W: Witness> Patient<'a, L, K, R, W> {
-    /// Over the listener, on these places, of which so many are kept back. Several listeners may have the same places.
+    /// Over the listener, on these places, of which that many are kept back. Several listeners may have the same places.
     pub fn new(
         rt: &'a R,
         listener: &'a L,
@@ -59,7 +59,7 @@ impl<'a, L: OpenListener, K: Ledger, R: Wait + Clock, W: Witness> Patient<'a, L,
                 Ok(accepted) => return Ok(accepted),
                 Err(error) => {
                     if !is_passing(&error) {
-                        self.witness.ended(self.listener.local_addr(), &error);
+                        self.witness.report_end(self.listener.local_addr(), &error);
                         return Err(error);
                     }
                 }
@@ -71,7 +71,7 @@ impl<'a, L: OpenListener, K: Ledger, R: Wait + Clock, W: Witness> Patient<'a, L,
 }
 
 /// It waits for a place, and then for a connection. Where the system refuses for a reason that may pass, it waits 20 milliseconds
-/// and asks again, for as long as that lasts. The only refusal is one that doesn't pass, of which the witness was told.
+/// and asks again, for as long as that lasts. The only refusal is one that doesn't pass, which was reported to the witness.
 impl<'a, L: OpenListener, K: Ledger, R: Wait + Clock, W: Witness> OpenListener
     for Patient<'a, L, K, R, W> {
     type Stream = Placed<'a, L::Stream, K, R>;

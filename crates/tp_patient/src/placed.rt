@@ -35,7 +35,7 @@ impl<'a, S: Drop, K: Ledger, R: Wait + Clock> Placed<'a, S, K, R> {
     }
 
     // How long has passed since it was accepted, as far as the clock says.
-    fn passed(&self) -> Duration {
+    fn age(&self) -> Duration {
         match self.accepted {
             Some(accepted) => accepted.elapsed(self.place.rt).unwrap_or(Duration::ZERO),
             None => Duration::ZERO,
@@ -95,7 +95,7 @@ impl<'a, S: OpenStream + Drop, K: Ledger, R: Wait + Clock> OpenStream for Placed
             return self.stream.set_read_timeout(dur);
         }
         self.stream
-            .set_read_timeout(Some(first_wait(dur, self.passed())))
+            .set_read_timeout(Some(first_wait(dur, self.age())))
     }
 
     fn set_write_timeout(&self, dur: Option<Duration>) -> io::Result<()> {

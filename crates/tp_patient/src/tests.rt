@@ -1,4 +1,4 @@
-//! Over a listener that answers as it is told, and streams that say nothing.
+//! Over a listener that answers by a list, and streams that say nothing.
 
 ghost use Rattle.std.specs.Prelude.{◌≡◌};
 
@@ -50,8 +50,8 @@ impl OpenStream for Quiet<'_> {
     }
 }
 
-// Accepts a stream at each third call, and refuses before it for want of descriptors, and since the client is gone. After so many
-// calls it refuses for good.
+// Accepts a stream at each third call, and refuses before it for want of descriptors, and since the client is gone. After
+// `most` calls it refuses for good.
 #[derive(Drop)]
 struct Scarce<'a> {
     bound: &'a Cell<Option<Duration>>,
@@ -84,7 +84,7 @@ impl<'a> OpenListener for Scarce<'a> {
 struct Heard(Cell<Option<i32>>);
 
 impl Witness for Heard {
-    fn ended(&self, _at: io::Result<SocketAddr>, error: &io::Error) {
+    fn report_end(&self, _at: io::Result<SocketAddr>, error: &io::Error) {
         self.0.set(error.raw_os_error());
     }
 }
@@ -101,9 +101,9 @@ struct Seen {
     handles: (bool, bool),
     // And after one of them was closed.
     after: bool,
-    // Why it ended, and what the witness was told.
+    // Why it ended, and what was reported to the witness.
     ended: Option<i32>,
-    told: Option<i32>,
+    reported: Option<i32>,
 }
 
 fn is_long(bound: Option<Duration>) -> bool {
@@ -156,7 +156,7 @@ fn see<K: Ledger, R: Wait + Clock>(rt: &R, blank: Blank) -> io::Result<Seen>
         handles,
         after,
         ended,
-        told: heard.0.get(),
+        reported: heard.0.get(),
     })
 }
 
@@ -170,7 +170,7 @@ fn places_and_refusals(rt: HostRuntime) -> Result<(), Fail> {
         handles: (true, false),
         after: true,
         ended: Some(22),
-        told: Some(22),
+        reported: Some(22),
     };
     assert_eq!(rt; seen, wanted);
     Ok(())

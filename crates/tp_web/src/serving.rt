@@ -27,10 +27,10 @@ use tp_patient::{Place, Places};
 use tp_served::{MAX_SEATS, Seat, Served};
 use tp_session::NetError;
 
-// So many connections may be open at once that have asked for no window yet.
+// This many connections may be open at once that have asked for no window yet.
 const MOST_VISITS: u64 = 192;
 
-// The requests of so many of them are read at once.
+// The requests of this many of them are read at once.
 const READERS: usize = 64;
 
 // A request has this many seconds from the acceptance of its connection on, and so has its answer.
@@ -39,7 +39,7 @@ const REQUEST: u64 = 10;
 // It has this many milliseconds at least once it is read: what has come by then is had.
 const LEAST: u64 = 10;
 
-/// So many connections are open at once at most: those that have asked for no window, the windows, and one that is refused.
+/// No more connections are open at once than this: those that have asked for no window, the windows, and one that is refused.
 pub const MOST_OPEN: u64 = MOST_VISITS + MAX_SEATS as u64 + 1;
 
 // A connection that has asked for nothing yet, its number from 1 in the order of acceptance, and its place.
@@ -113,13 +113,7 @@ fn accept_all<
 }
 
 // Answers the request of a connection; one for a window goes to the workers, where there is a place among windows.
-fn attend<
-    'a,
-    V: Ledger,
-    W: Ledger,
-    R: Wait + Clock,
-    S: Read + Write + OpenStream + Drop,
->(
+fn attend<'a, V: Ledger, W: Ledger, R: Wait + Clock, S: Read + Write + OpenStream + Drop>(
     rt: &'a R,
     alloc: Global,
     site: &Site,
@@ -153,13 +147,7 @@ fn attend<
 }
 
 // Reads the requests of one connection after another, until no more come.
-fn read_requests<
-    'a,
-    V: Ledger,
-    W: Ledger,
-    R: Wait + Clock,
-    S: Read + Write + OpenStream + Drop,
->(
+fn read_requests<'a, V: Ledger, W: Ledger, R: Wait + Clock, S: Read + Write + OpenStream + Drop>(
     rt: &'a R,
     alloc: Global,
     site: &Site,
@@ -175,7 +163,7 @@ fn read_requests<
     }
 }
 
-// The same by several threads. The workers end once it is done.
+// Reads them by several threads. The workers end once it is done.
 fn read_all<
     'a,
     V: Ledger + Send + Sync,
@@ -191,9 +179,12 @@ fn read_all<
     workers: Sender<Asking<'a, S, W, R>>,
 ) {
     let mut readers = [(); READERS];
-    thread::for_each_mut(rt, &mut readers, READERS, &|_, _: &mut ()| {
-        read_requests(rt, alloc, site, &visits, windows, &workers)
-    });
+    thread::for_each_mut(
+        rt,
+        &mut readers,
+        READERS,
+        &|_, _: &mut ()| { read_requests(rt, alloc, site, &visits, windows, &workers) },
+    );
 }
 
 // A worker: it shows one window after another, until no more come.
@@ -391,7 +382,7 @@ fn serve_counted<
 /// first. `OutOfMemory` where there is no memory to begin. The seats come back either way.
 ///
 /// Contracts see of each seat the turns that led it on; in each turn the peer stayed or made one edit. How many there
-/// were they don't say, nor anything of what goes over the sockets. That so many are open at most is a fact of the types.
+/// were they don't say, nor anything of what goes over the sockets. That no more are open is a fact of the types.
 pub fn serve_windows<
     R: Threads + Wait + Clock + Sync,
     S: Read + Write + OpenStream + Send + Drop,

@@ -17,7 +17,7 @@ pub(crate) struct Timed<'a, S: Drop, R> {
 }
 
 impl<'a, S: Drop, R: Clock> Timed<'a, S, R> {
-    /// The stream, which is read for so many seconds from now on.
+    /// The stream, which is read for that many seconds from now on.
     pub(crate) fn new(rt: &'a R, stream: S, secs: u64) -> Timed<'a, S, R> {
         Timed {
             rt,
@@ -27,7 +27,7 @@ impl<'a, S: Drop, R: Clock> Timed<'a, S, R> {
         }
     }
 
-    /// What has come by now is read, also where its time is over: it has so many milliseconds at least.
+    /// What has come by now is read, also where its time is over: it has that many milliseconds at least.
     pub(crate) fn allow(&self, millis: u64) {
         let least = after(self.rt, Duration::from_millis(millis));
         if let (Some(until), Some(least)) = (self.until.get(), least) {
@@ -37,7 +37,7 @@ impl<'a, S: Drop, R: Clock> Timed<'a, S, R> {
         }
     }
 
-    /// It is read for so many seconds from now on; and whether its other side was asked for a sign of life since it gave one.
+    /// It is read for that many seconds from now on; and whether its other side was asked for a sign of life since it gave one.
     pub(crate) fn extend(&self, secs: u64, is_asked: bool) {
         self.until.set(after(self.rt, Duration::from_secs(secs)));
         self.is_asked.set(is_asked);
@@ -49,7 +49,7 @@ impl<'a, S: Drop, R: Clock> Timed<'a, S, R> {
     }
 
     // How long the next read may wait; `None` where the clock doesn't say.
-    fn left(&self) -> Option<Duration> {
+    fn time_left(&self) -> Option<Duration> {
         let until = self.until.get()?;
         match Instant::now(self.rt) {
             Ok(now) => Some(until.saturating_duration_since(now)),
@@ -64,9 +64,11 @@ fn after<R: Clock>(rt: &R, time: Duration) -> Option<Instant> {
 }
 
 impl<S: OpenStream + Drop, R> Timed<'_, S, R> {
-    /// Lets no write wait longer than so many seconds, where the stream knows such a bound.
+    /// Lets no write wait longer than that many seconds, where the stream knows such a bound.
     pub(crate) fn limit_writes(&self, secs: u64) {
-        let _ = self.stream.set_write_timeout(Some(Duration::from_secs(secs)));
+        let _ = self
+            .stream
+            .set_write_timeout(Some(Duration::from_secs(secs)));
     }
 }
 
@@ -74,7 +76,7 @@ impl<S: Read + OpenStream + Drop, R: Clock> Read for Timed<'_, S, R> {
     ghost remaining = { λ t. S.remaining t.stream };
 
     fn read(&mut self, buf: &mut [u8]) -> io::Result<usize> {
-        if let Some(left) = self.left() {
+        if let Some(left) = self.time_left() {
             if left.is_zero() {
                 return Err(io::Error::from(ErrorKind::WouldBlock));
             }
