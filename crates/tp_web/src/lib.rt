@@ -8,6 +8,7 @@
 
 mod actors;
 mod head;
+mod limit;
 mod living;
 mod page;
 mod responding;

@@ -1,11 +1,13 @@
 //! The connections of a page: those whose requests are read, and the windows, one worker a seat.
 
-ghost use Rattle.std.specs.Prelude.{◌≡◌, ◌⊎◌, IfErr, IfOk, length};
+ghost use Rattle.std.specs.Prelude.{◌≡◌, ◌⊎◌, IfErr, IfOk};
 ghost use Rattle.tp_served.specs.Calls.{AreOf};
 ghost use Rattle.tp_session.specs.declared.error.NetError.TheVariants.{Io, OutOfMemory};
 ghost use Rattle.tp_web.specs.Visiting.{AllAttend, Attends};
 
 use crate::actors::Actors;
+use crate::limit::Limit;
+use crate::living::QUIET;
 use crate::responding::send_busy;
 use crate::site::Site;
 use crate::timed::Timed;
@@ -14,16 +16,13 @@ use crate::windowing::begin;
 use crossbeam_channel::{Receiver, Sender};
 use std::alloc::Global;
 use std::io::{Read, Write};
-use std::marker::Brand;
 use std::net::{OpenListener, OpenStream};
 use std::sync::Wait;
-use std::sync::ledger::{Blank, Ledger};
 use std::thread;
 use std::thread::Threads;
-use std::time::Clock;
+use std::time::{Clock, Duration, Instant};
 use tp_journal::Journal;
 use tp_net::Interrupted;
-use tp_patient::{Place, Places};
 use tp_served::{MAX_SEATS, Seat, Served};
 use tp_session::NetError;
 
@@ -36,59 +35,50 @@ const READERS: usize = 64;
 // A request has this many seconds from the acceptance of its connection on, and so has its answer.
 const REQUEST: u64 = 10;
 
-// It has this many milliseconds at least once it is read: what has come by then is had.
-const LEAST: u64 = 10;
-
 /// No more connections are open at once than this: those that have asked for no window, the windows, and one that is refused.
 pub const MOST_OPEN: u64 = MOST_VISITS + MAX_SEATS as u64 + 1;
 
-// A connection that has asked for nothing yet, its number from 1 in the order of acceptance, and its place.
+// A connection that has asked for nothing yet, its number from 1 in the order of acceptance, and when it was accepted, where the
+// clock said.
 #[derive(Drop)]
-struct Visit<'a, S: Drop, V: Ledger, R: Wait> {
+struct Visit<S> {
     number: u64,
-    stream: Timed<'a, S, R>,
-    place: Place<'a, V, R>,
+    at: Option<Instant>,
+    stream: S,
 }
 
-// A connection that has asked for a window, the bytes that begin with its request, and its place among windows.
+// A connection that has asked for a window, with the bytes that begin with its request.
 #[derive(Drop)]
-struct Asking<'a, S: Drop, W: Ledger, R: Wait> {
+struct Asking<S> {
     number: u64,
-    stream: Timed<'a, S, R>,
+    stream: S,
     request: Vec<u8>,
-    place: Place<'a, W, R>,
 }
 
-// What is served: where connections come from, what they may ask for, and how many are accepted.
+// What is served: the connections of a listener, as many as said, what they may ask for, and how many may be open.
+#[derive(Drop)]
 struct Door<'a, L> {
     listener: &'a L,
     site: &'a Site,
     connections: u64,
+    visits: Limit,
+    windows: Limit,
 }
 
 // Says to a connection that there are too many, and ends it.
-fn turn_away<R: Clock, S: Read + Write + OpenStream + Drop>(
-    alloc: Global,
-    stream: Timed<'_, S, R>,
-) {
+fn turn_away<S: Read + Write + OpenStream + Drop>(alloc: Global, stream: S) {
     let mut stream = stream;
+    let _ = stream.set_write_timeout(Some(Duration::from_secs(REQUEST)));
     let _ = send_busy(alloc, &mut stream);
 }
 
 // Accepts connections, as many as said, and sends each to those who read requests; these end once the sender is gone. One too many
 // is refused at once, and one for which there is no memory is closed.
-fn accept_all<
-    'a,
-    V: Ledger,
-    R: Wait + Clock,
-    S: Read + Write + OpenStream + Drop,
-    L: OpenListener<Stream = S>,
->(
-    rt: &'a R,
+fn accept_all<R: Wait + Clock, S: Read + Write + OpenStream + Drop, L: OpenListener<Stream = S>>(
+    rt: &R,
     alloc: Global,
     door: &Door<'_, L>,
-    visits: &'a Places<V>,
-    readers: Sender<Visit<'a, S, V, R>>,
+    readers: Sender<Visit<S>>,
 ) -> Result<(), NetError>
     ensures { IfErr result (λ e. e ≡ Io) }
 {
@@ -96,103 +86,103 @@ fn accept_all<
         let Ok((stream, _)) = door.listener.accept() else {
             return Err(NetError::Io);
         };
-        let stream = Timed::new(rt, stream, REQUEST);
-        stream.limit_writes(REQUEST);
-        let Some(place) = visits.take(rt) else {
+        if !door.visits.enter(rt) {
             turn_away(alloc, stream);
             continue;
-        };
+        }
         let visit = Visit {
             number: before + 1,
+            at: Instant::now(rt).ok(),
             stream,
-            place,
         };
-        let _ = readers.send(rt, visit);
+        if readers.send(rt, visit).is_err() {
+            door.visits.leave(rt);
+        }
     }
     Ok(())
 }
 
-// Answers the request of a connection; one for a window goes to the workers, where there is a place among windows.
-fn attend<'a, V: Ledger, W: Ledger, R: Wait + Clock, S: Read + Write + OpenStream + Drop>(
-    rt: &'a R,
+// Sends a connection that asks for a window to the workers, where one more may be open.
+fn pass_on<R: Wait, S: Read + Write + OpenStream + Drop>(
+    rt: &R,
+    alloc: Global,
+    windows: &Limit,
+    workers: &Sender<Asking<S>>,
+    asking: Asking<S>,
+) {
+    if !windows.enter(rt) {
+        turn_away(alloc, asking.stream);
+        return;
+    }
+    if workers.send(rt, asking).is_err() {
+        windows.leave(rt);
+    }
+}
+
+// Answers the request of a connection, except for one for a window, which goes to the workers.
+fn attend<R: Wait + Clock, S: Read + Write + OpenStream + Drop>(
+    rt: &R,
     alloc: Global,
     site: &Site,
-    visit: Visit<'a, S, V, R>,
-    windows: &'a Places<W>,
-    workers: &Sender<Asking<'a, S, W, R>>,
+    windows: &Limit,
+    workers: &Sender<Asking<S>>,
+    visit: Visit<S>,
 ) {
-    let Visit {
-        number,
-        stream,
-        place,
-    } = visit;
-    let mut stream = stream;
-    stream.allow(LEAST);
-    match receive(alloc, site, &mut stream) {
-        Some(request) => match windows.take(rt) {
-            Some(place) => {
-                let asking = Asking {
-                    number,
-                    stream,
-                    request,
-                    place,
-                };
-                let _ = workers.send(rt, asking);
-            }
-            None => turn_away(alloc, stream),
-        },
-        None => drop(stream),
+    let Visit { number, at, stream } = visit;
+    let mut stream = Timed::new(rt, stream, at, REQUEST);
+    stream.limit_writes(REQUEST);
+    if let Some(request) = receive(alloc, site, &mut stream) {
+        let stream = stream.into_inner();
+        let asking = Asking {
+            number,
+            stream,
+            request,
+        };
+        pass_on(rt, alloc, windows, workers, asking);
     }
-    drop(place);
 }
 
 // Reads the requests of one connection after another, until no more come.
-fn read_requests<'a, V: Ledger, W: Ledger, R: Wait + Clock, S: Read + Write + OpenStream + Drop>(
-    rt: &'a R,
+fn read_requests<R: Wait + Clock, S: Read + Write + OpenStream + Drop, L>(
+    rt: &R,
     alloc: Global,
-    site: &Site,
-    visits: &Receiver<Visit<'a, S, V, R>>,
-    windows: &'a Places<W>,
-    workers: &Sender<Asking<'a, S, W, R>>,
+    door: &Door<'_, L>,
+    visits: &Receiver<Visit<S>>,
+    workers: &Sender<Asking<S>>,
 ) {
     for _ in rt.forever() {
         let Ok(visit) = visits.recv(rt) else {
             break;
         };
-        attend(rt, alloc, site, visit, windows, workers);
+        attend(rt, alloc, door.site, &door.windows, workers, visit);
+        door.visits.leave(rt);
     }
 }
 
-// Reads them by several threads. The workers end once it is done.
-fn read_all<
-    'a,
-    V: Ledger + Send + Sync,
-    W: Ledger + Send + Sync,
-    R: Threads + Wait + Clock + Sync,
-    S: Read + Write + OpenStream + Send + Drop,
->(
-    rt: &'a R,
+// Reads them by several threads. The workers end once that is done.
+fn read_all<R: Threads + Wait + Clock + Sync, S: Read + Write + OpenStream + Send + Drop, L: Sync>(
+    rt: &R,
     alloc: Global,
-    site: &Site,
-    visits: Receiver<Visit<'a, S, V, R>>,
-    windows: &'a Places<W>,
-    workers: Sender<Asking<'a, S, W, R>>,
+    door: &Door<'_, L>,
+    visits: Receiver<Visit<S>>,
+    workers: Sender<Asking<S>>,
 ) {
     let mut readers = [(); READERS];
     thread::for_each_mut(
         rt,
         &mut readers,
         READERS,
-        &|_, _: &mut ()| { read_requests(rt, alloc, site, &visits, windows, &workers) },
+        &|_, _: &mut ()| { read_requests(rt, alloc, door, &visits, &workers) },
     );
 }
 
 // A worker: it shows one window after another, until no more come.
 #[tactic(auto, using(crate::proofs::Attending::stays, crate::proofs::Attending::joins))]
-fn work<'a, W: Ledger, R: Wait + Clock, S: Read + Write + OpenStream + Drop, J: Journal>(
+fn work<R: Wait + Clock, S: Read + Write + OpenStream + Drop, J: Journal>(
     rt: &R,
     alloc: Global,
-    windows: &Receiver<Asking<'a, S, W, R>>,
+    limit: &Limit,
+    windows: &Receiver<Asking<S>>,
     key: [u8; 32],
     served: &Served<J>,
     seat: &mut Seat,
@@ -201,32 +191,33 @@ fn work<'a, W: Ledger, R: Wait + Clock, S: Read + Write + OpenStream + Drop, J: 
     ensures { Attends seat.old seat.new }
 {
     for _ in rt.forever() {
-        let Ok(asking) = windows.recv(rt) else {
+        let Ok(
+            Asking {
+                number,
+                stream,
+                request,
+            },
+        ) = windows.recv(rt)
+        else {
             break;
         };
-        let Asking {
-            number,
-            stream,
-            request,
-            place,
-        } = asking;
+        let stream = Timed::new(rt, stream, None, QUIET);
         let window = Actors { key, number }.window(&request);
         begin(rt, alloc, stream, &request, window, served, seat);
-        drop(place);
+        limit.leave(rt);
     }
 }
 
 // One worker for each seat, side by side. The seats come back.
 fn work_on_all<
-    'a,
-    W: Ledger + Send + Sync,
     R: Threads + Wait + Clock + Sync,
     S: Read + Write + OpenStream + Send + Drop,
     J: Journal + Send,
 >(
     rt: &R,
     alloc: Global,
-    windows: Receiver<Asking<'a, S, W, R>>,
+    limit: &Limit,
+    windows: Receiver<Asking<S>>,
     key: [u8; 32],
     served: &Served<J>,
     seats: Vec<Seat>,
@@ -243,27 +234,17 @@ fn work_on_all<
         &|_, seat: &mut Seat|
             requires { seat.old.served ≡ served.now.served }
             ensures { Attends seat.old seat.new }
-        { work(rt, alloc, &windows, key, served, seat) },
+        { work(rt, alloc, limit, &windows, key, served, seat) },
     );
     seats
 }
 
 // Accepts connections and answers their requests. Those for windows go to the workers, which end once that is done.
 fn welcome<
-    'a,
-    V: Ledger + Send + Sync,
-    W: Ledger + Send + Sync,
     R: Threads + Wait + Clock + Sync,
     S: Read + Write + OpenStream + Send + Drop,
-    L: OpenListener<Stream = S>,
->(
-    rt: &'a R,
-    alloc: Global,
-    door: &Door<'_, L>,
-    visits: &'a Places<V>,
-    windows: &'a Places<W>,
-    workers: Sender<Asking<'a, S, W, R>>,
-) -> Result<(), NetError>
+    L: OpenListener<Stream = S> + Sync,
+>(rt: &R, alloc: Global, door: &Door<'_, L>, workers: Sender<Asking<S>>) -> Result<(), NetError>
     ensures { IfErr result (λ e. (e ≡ Io) ⊎ (e ≡ OutOfMemory)) }
 {
     let Ok((readers, waiting)) = crossbeam_channel::unbounded(alloc) else {
@@ -271,98 +252,10 @@ fn welcome<
     };
     let ((), accepted) = thread::join(
         rt,
-        move || read_all(rt, alloc, door.site, waiting, windows, workers),
-        move || accept_all(rt, alloc, door, visits, readers),
+        move || read_all(rt, alloc, door, waiting, workers),
+        move || accept_all(rt, alloc, door, readers),
     );
     accepted
-}
-
-// Serves the page on places for what asks for no window, and as many for windows as there are seats.
-fn serve_on<
-    V: Ledger + Send + Sync,
-    W: Ledger + Send + Sync,
-    R: Threads + Wait + Clock + Sync,
-    S: Read + Write + OpenStream + Send + Drop,
-    L: OpenListener<Stream = S>,
-    J: Journal + Send,
->(
-    rt: &R,
-    alloc: Global,
-    door: &Door<'_, L>,
-    visits: &Places<V>,
-    served: &Served<J>,
-    seats: Vec<Seat>,
-    key: [u8; 32],
-    blank: Blank,
-) -> Result<Vec<Seat>, Interrupted>
-    requires of { AreOf served.now.served seats.items }
-    requires name { blank.name ≡ W.name }
-    requires parts { blank.parts ≡ W.parts }
-    requires places { blank.parts ≡ length seats.items }
-    ensures seats { IfOk result (λ back. AllAttend seats.items back.items) }
-    ensures of { IfOk result (λ back. AreOf served.now.served back.items) }
-    ensures err { IfErr result (λ i. AllAttend seats.items i.seats.items
-        × AreOf served.now.served i.seats.items × ((i.error ≡ Io) ⊎ (i.error ≡ OutOfMemory))) }
-{
-    let windows = Places::<W>::new(blank, seats.len() as u64);
-    let Ok((workers, waiting)) = crossbeam_channel::unbounded(alloc) else {
-        return Err(Interrupted {
-            seats,
-            error: NetError::OutOfMemory,
-        });
-    };
-    let shown = &windows;
-    let (seats, accepted) = thread::join(
-        rt,
-        move ||
-            requires { AreOf served.now.served seats.items }
-            ensures { AllAttend seats.items result.items }
-        { work_on_all(rt, alloc, waiting, key, served, seats) },
-        move || welcome(rt, alloc, door, visits, shown, workers),
-    );
-    match accepted {
-        Ok(()) => Ok(seats),
-        Err(error) => Err(Interrupted { seats, error }),
-    }
-}
-
-// Serves the page on places that are counted by the ledger.
-fn serve_counted<
-    V: Ledger + Send + Sync,
-    R: Threads + Wait + Clock + Sync,
-    S: Read + Write + OpenStream + Send + Drop,
-    L: OpenListener<Stream = S>,
-    J: Journal + Send,
->(
-    rt: &R,
-    alloc: Global,
-    door: &Door<'_, L>,
-    served: &Served<J>,
-    seats: Vec<Seat>,
-    key: [u8; 32],
-    blank: Blank,
-) -> Result<Vec<Seat>, Interrupted>
-    requires of { AreOf served.now.served seats.items }
-    requires name { blank.name ≡ V.name }
-    requires parts { blank.parts ≡ V.parts }
-    requires places { blank.parts ≡ MOST_VISITS }
-    ensures seats { IfOk result (λ back. AllAttend seats.items back.items) }
-    ensures of { IfOk result (λ back. AreOf served.now.served back.items) }
-    ensures err { IfErr result (λ i. AllAttend seats.items i.seats.items
-        × AreOf served.now.served i.seats.items × ((i.error ≡ Io) ⊎ (i.error ≡ OutOfMemory))) }
-{
-    let visits = Places::<V>::new(blank, MOST_VISITS);
-    let count = seats.len() as u64;
-    serve_on::<V, Brand, R, S, L, J>(
-        rt,
-        alloc,
-        door,
-        &visits,
-        served,
-        seats,
-        key,
-        Blank::new(count),
-    )
 }
 
 /// Accepts as many connections as said, and answers the request of each: with a part of the page, or by a window, whose requests
@@ -382,11 +275,11 @@ fn serve_counted<
 /// first. `OutOfMemory` where there is no memory to begin. The seats come back either way.
 ///
 /// Contracts see of each seat the turns that led it on; in each turn the peer stayed or made one edit. How many there
-/// were they don't say, nor anything of what goes over the sockets. That no more are open is a fact of the types.
+/// were they don't say, nor anything of what goes over the sockets.
 pub fn serve_windows<
     R: Threads + Wait + Clock + Sync,
     S: Read + Write + OpenStream + Send + Drop,
-    L: OpenListener<Stream = S>,
+    L: OpenListener<Stream = S> + Sync,
     J: Journal + Send,
 >(
     rt: &R,
@@ -407,18 +300,31 @@ pub fn serve_windows<
     if seats.is_empty() {
         return Ok(seats);
     }
+    let Ok((workers, waiting)) = crossbeam_channel::unbounded(alloc) else {
+        return Err(Interrupted {
+            seats,
+            error: NetError::OutOfMemory,
+        });
+    };
     let door = Door {
         listener,
         site,
         connections,
+        visits: Limit::new(MOST_VISITS),
+        windows: Limit::new(seats.len() as u64),
     };
-    serve_counted::<Brand, R, S, L, J>(
+    let open = &door;
+    let limit = &door.windows;
+    let (seats, accepted) = thread::join(
         rt,
-        alloc,
-        &door,
-        served,
-        seats,
-        key,
-        Blank::new(MOST_VISITS),
-    )
+        move ||
+            requires { AreOf served.now.served seats.items }
+            ensures { AllAttend seats.items result.items }
+        { work_on_all(rt, alloc, limit, waiting, key, served, seats) },
+        move || welcome(rt, alloc, open, workers),
+    );
+    match accepted {
+        Ok(()) => Ok(seats),
+        Err(error) => Err(Interrupted { seats, error }),
+    }
 }

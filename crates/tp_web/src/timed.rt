@@ -6,6 +6,9 @@ use std::io::{ErrorKind, Read, Write};
 use std::net::OpenStream;
 use std::time::{Clock, Duration, Instant};
 
+// What is read has this many milliseconds at least.
+const LEAST: u64 = 10;
+
 /// A stream with a time after which nothing more is read, where the clock says what time it is. A read that would wait longer is
 /// refused as `WouldBlock`, so that bytes which come one by one take no longer than all at once.
 #[derive(Drop)]
@@ -17,24 +20,27 @@ pub(crate) struct Timed<'a, S: Drop, R> {
 }
 
 impl<'a, S: Drop, R: Clock> Timed<'a, S, R> {
-    /// The stream, which is read for that many seconds from now on.
-    pub(crate) fn new(rt: &'a R, stream: S, secs: u64) -> Timed<'a, S, R> {
+    /// The stream, which is read for that many seconds from a time on, or from now on where none is given. What has come by now is
+    /// read in any case: it has 10 milliseconds at least.
+    pub(crate) fn new(rt: &'a R, stream: S, from: Option<Instant>, secs: u64) -> Timed<'a, S, R> {
+        let time = Duration::from_secs(secs);
+        let left = match from {
+            Some(from) => time
+                .saturating_sub(from.elapsed(rt).unwrap_or(Duration::ZERO))
+                .max(Duration::from_millis(LEAST)),
+            None => time,
+        };
         Timed {
             rt,
             stream,
-            until: Cell::new(after(rt, Duration::from_secs(secs))),
+            until: Cell::new(after(rt, left)),
             is_asked: Cell::new(false),
         }
     }
 
-    /// What has come by now is read, also where its time is over: it has that many milliseconds at least.
-    pub(crate) fn allow(&self, millis: u64) {
-        let least = after(self.rt, Duration::from_millis(millis));
-        if let (Some(until), Some(least)) = (self.until.get(), least) {
-            if until < least {
-                self.until.set(Some(least));
-            }
-        }
+    /// The stream itself.
+    pub(crate) fn into_inner(self) -> S {
+        self.stream
     }
 
     /// It is read for that many seconds from now on; and whether its other side was asked for a sign of life since it gave one.
