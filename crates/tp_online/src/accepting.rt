@@ -20,19 +20,16 @@ pub(crate) const KEPT: u64 = MOST_OPEN + SESSIONS as u64;
 
 /// Says on the standard error why a listener accepts no more. Where memory is short, the line is missing.
 #[derive(Clone, Copy)]
-pub(crate) struct Teller<'a, R> {
-    /// What has the standard error.
-    pub rt: &'a R,
-}
+pub(crate) struct Teller;
 
-impl<R: Eprint + AllocGlobal> Witness for Teller<'_, R> {
-    fn report_end(&self, at: io::Result<SocketAddr>, error: &io::Error) {
+impl<R: Eprint + AllocGlobal> Witness<R> for Teller {
+    fn report_end(&self, rt: &R, at: io::Result<SocketAddr>, error: &io::Error) {
         let line = match at {
-            Ok(at) => format!(in self.rt.alloc(); "{at} accepts no more: {error}\n"),
-            Err(_) => format!(in self.rt.alloc(); "a listener accepts no more: {error}\n"),
+            Ok(at) => format!(in rt.alloc(); "{at} accepts no more: {error}\n"),
+            Err(_) => format!(in rt.alloc(); "a listener accepts no more: {error}\n"),
         };
         if let Ok(line) = line {
-            let _ = self.rt.eprint(line);
+            let _ = rt.eprint(line);
         }
     }
 }

@@ -114,12 +114,11 @@ fn patient_beside<'a, K: Ledger, R: Net + Wait + Clock + Eprint + AllocGlobal>(
     rt: &'a R,
     sessions: &'a Option<R::Listener>,
     places: &'a Places<K>,
-    teller: &'a Teller<'a, R>,
-) -> Option<Patient<'a, R::Listener, K, R, Teller<'a, R>>>
+) -> Option<Patient<'a, R::Listener, K, R, Teller>>
     ensures { is_some result ≡ is_some sessions.now }
 {
     match sessions {
-        Some(listener) => Some(Patient::new(rt, listener, places, KEPT, teller)),
+        Some(listener) => Some(Patient::new(rt, listener, places, KEPT, &Teller)),
         None => None,
     }
 }
@@ -153,11 +152,10 @@ where
         sessions,
     } = stage;
     let places = Places::<K>::new(blank, WEB_PLACES);
-    let teller = Teller { rt };
     let patient = Stage {
-        page: Patient::new(rt, &page, &places, 0, &teller),
+        page: Patient::new(rt, &page, &places, 0, &Teller),
         site,
-        sessions: patient_beside(rt, &sessions, &places, &teller),
+        sessions: patient_beside(rt, &sessions, &places),
     };
     match seat_peer(rt.alloc(), peer, MAX_SEATS) {
         Ok((served, seats)) => {

@@ -126,7 +126,6 @@ where
         × (length back.items ≡ length seats.items)) }
 {
     let places = Places::<K>::new(blank, SERVE_PLACES);
-    let teller = Teller { rt };
     let kept = how.workers as u64;
     let gate = Log {
         rt,
@@ -135,7 +134,7 @@ where
     hold(
         rt,
         rt.alloc(),
-        &Patient::new(rt, listener, &places, kept, &teller),
+        &Patient::new(rt, listener, &places, kept, &Teller),
         served,
         seats,
         how.sessions,

@@ -17,14 +17,14 @@ use std::{io, thread};
 const MOMENT: u64 = 20;
 
 /// Who learns why a listener accepts nothing more.
-pub trait Witness {
+pub trait Witness<R> {
     /// The system refused for a reason that doesn't pass. The listener is at the address, as far as the system says.
-    fn report_end(&self, at: io::Result<SocketAddr>, error: &io::Error);
+    fn report_end(&self, rt: &R, at: io::Result<SocketAddr>, error: &io::Error);
 }
 
 /// A listener over another one, which accepts while more places are free than are kept back for further handles of its streams.
 #[derive(Drop)]
-pub struct Patient<'a, L: OpenListener, K: Ledger, R: Wait + Clock, W: Witness> {
+pub struct Patient<'a, L: OpenListener, K: Ledger, R: Wait + Clock, W: Witness<R>> {
     rt: &'a R,
     listener: &'a L,
     places: &'a Places<K>,
@@ -32,7 +32,7 @@ pub struct Patient<'a, L: OpenListener, K: Ledger, R: Wait + Clock, W: Witness> 
     witness: &'a W,
 }
 
-impl<'a, L: OpenListener, K: Ledger, R: Wait + Clock, W: Witness> Patient<'a, L, K, R, W> {
+impl<'a, L: OpenListener, K: Ledger, R: Wait + Clock, W: Witness<R>> Patient<'a, L, K, R, W> {
     /// Over the listener, on these places, of which that many are kept back. Several listeners may have the same places.
     pub fn new(
         rt: &'a R,
@@ -59,7 +59,8 @@ impl<'a, L: OpenListener, K: Ledger, R: Wait + Clock, W: Witness> Patient<'a, L,
                 Ok(accepted) => return Ok(accepted),
                 Err(error) => {
                     if !is_passing(&error) {
-                        self.witness.report_end(self.listener.local_addr(), &error);
+                        self.witness
+                            .report_end(self.rt, self.listener.local_addr(), &error);
                         return Err(error);
                     }
                 }
@@ -72,7 +73,7 @@ impl<'a, L: OpenListener, K: Ledger, R: Wait + Clock, W: Witness> Patient<'a, L,
 
 /// It waits for a place, and then for a connection. Where the system refuses for a reason that may pass, it waits 20 milliseconds
 /// and asks again, for as long as that lasts. The only refusal is one that doesn't pass, which was reported to the witness.
-impl<'a, L: OpenListener, K: Ledger, R: Wait + Clock, W: Witness> OpenListener
+impl<'a, L: OpenListener, K: Ledger, R: Wait + Clock, W: Witness<R>> OpenListener
     for Patient<'a, L, K, R, W> {
     type Stream = Placed<'a, L::Stream, K, R>;
 

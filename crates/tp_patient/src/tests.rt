@@ -83,8 +83,8 @@ impl<'a> OpenListener for Scarce<'a> {
 #[derive(Drop)]
 struct Heard(Cell<Option<i32>>);
 
-impl Witness for Heard {
-    fn report_end(&self, _at: io::Result<SocketAddr>, error: &io::Error) {
+impl<R> Witness<R> for Heard {
+    fn report_end(&self, _rt: &R, _at: io::Result<SocketAddr>, error: &io::Error) {
         self.0.set(error.raw_os_error());
     }
 }
