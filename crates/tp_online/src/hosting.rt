@@ -4,6 +4,7 @@ ghost use Rattle.std.specs.Prelude.{◌≡◌, ◌++◌, IfOk, is_some, length};
 ghost use Rattle.tp_online.specs.Showing.{AllTakePart, FollowsServer};
 ghost use Rattle.tp_served.specs.Calls.{AreOf};
 
+use crate::accepting::SESSIONS;
 use crate::seating::hold;
 use crate::serving::reach_there;
 use crossbeam_channel::{Receiver, RecvTimeoutError, Sender};
@@ -21,9 +22,6 @@ use tp_report::{JobError, tell_followed};
 use tp_served::{Seat, Served};
 use tp_session::{NetError, Role};
 use tp_web::{Site, serve_windows};
-
-// This many sessions are held at once beside a page, where they are served.
-const SESSIONS: usize = 15;
 
 // The other side of a session may say nothing for this many seconds.
 const PATIENCE: u64 = 30;

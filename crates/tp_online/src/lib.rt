@@ -2,6 +2,7 @@
 //! each on a journal that is on the disk before a session answers.
 #![tactic(auto)]
 
+mod accepting;
 mod following;
 mod hosting;
 mod listening;

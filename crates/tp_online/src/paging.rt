@@ -10,14 +10,17 @@ ghost use Rattle.tp_online.specs.Showing.{ShowsJournal, WasShown};
 ghost use Rattle.tp_report.specs.Telling.{GrowsBy, GrowsPart, Reports};
 ghost use Rattle.tp_textpeer.specs.Output.{AppendsPart};
 
+use crate::accepting::{KEPT, Teller, WEB_PLACES};
 use crate::hosting::{ServerAt, Stage, take_part};
 use crate::listening::{Listening, bind, listen};
 use crate::seating::{end_serving, seat_peer};
 use std::alloc::Global;
 use std::fs::OpenFile;
 use std::io::Write;
+use std::marker::Brand;
 use std::net::{Net, OpenListener, SocketAddr};
 use std::sync::Wait;
+use std::sync::ledger::{Blank, Ledger};
 use std::thread::Threads;
 use std::time::Clock;
 use tp_command_line::{Address, Hosting};
@@ -25,6 +28,7 @@ use tp_commands::CommandError;
 use tp_disk::{Disk, draw_actor, key_or_random};
 use tp_journal::DurableJournal;
 use tp_net::Unreached;
+use tp_patient::{Patient, Places};
 use tp_peer::Peer;
 use tp_report::{JobError, put, report};
 use tp_served::MAX_SEATS;
@@ -105,14 +109,82 @@ fn server_of<'a, R>(rt: &'a R, hosting: &Hosting<'a>) -> Option<ServerAt<'a, R>>
     }
 }
 
+// What accepts beside a page, where there is one, on the places that the page leaves.
+fn patient_beside<'a, K: Ledger, R: Net + Wait + Clock + Eprint + AllocGlobal>(
+    rt: &'a R,
+    sessions: &'a Option<R::Listener>,
+    places: &'a Places<K>,
+) -> Option<Patient<'a, R::Listener, K, R, Teller>>
+    ensures { is_some result ≡ is_some sessions.now }
+{
+    match sessions {
+        Some(listener) => Some(Patient::new(rt, listener, places, KEPT, &Teller)),
+        None => None,
+    }
+}
+
 // Shows the peer, on as many seats as there may be, and ends that with those that came back: the peer that the closing gives.
-// One whose journal failed meanwhile is refused.
+// One whose journal failed meanwhile is refused. The places are counted by the ledger.
+fn show_counted<
+    K: Ledger + Send + Sync,
+    R: Net + Threads + Wait + Clock + Eprint + AllocGlobal + Sync,
+    F: Write + OpenFile + Send + Drop,
+>(
+    rt: &R,
+    stage: Stage<R::Listener>,
+    hosting: &Hosting<'_>,
+    peer: Peer<DurableJournal<F>>,
+    key: [u8; 32],
+    blank: Blank,
+) -> Result<Peer<DurableJournal<F>>, JobError>
+where
+    R::Listener: Sync,
+    R::Stream: Send,
+    requires beside { is_some stage.sessions ≡ is_some hosting.now.serve }
+    requires name { blank.name ≡ K.name }
+    requires parts { blank.parts ≡ K.parts }
+    requires places { blank.parts ≡ WEB_PLACES }
+    ensures { IfOk result (λ p. WasShown hosting.now peer p) }
+{
+    let Stage {
+        page,
+        site,
+        sessions,
+    } = stage;
+    let places = Places::<K>::new(blank, WEB_PLACES);
+    let patient = Stage {
+        page: Patient::new(rt, &page, &places, 0, &Teller),
+        site,
+        sessions: patient_beside(rt, &sessions, &places),
+    };
+    match seat_peer(rt.alloc(), peer, MAX_SEATS) {
+        Ok((served, seats)) => {
+            let server = server_of(rt, hosting);
+            match take_part(
+                rt,
+                rt.alloc(),
+                &patient,
+                &server,
+                hosting,
+                &served,
+                seats,
+                key,
+            ) {
+                Ok(back) => Ok(end_serving(served, back)?),
+                Err(error) => Err(error),
+            }
+        }
+        Err(error) => Err(JobError::Command(error)),
+    }
+}
+
+// Shows the peer as [`show_counted`] does.
 fn show_peer<
     R: Net + Threads + Wait + Clock + Eprint + AllocGlobal + Sync,
     F: Write + OpenFile + Send + Drop,
 >(
     rt: &R,
-    stage: &Stage<R::Listener>,
+    stage: Stage<R::Listener>,
     hosting: &Hosting<'_>,
     peer: Peer<DurableJournal<F>>,
     key: [u8; 32],
@@ -120,19 +192,10 @@ fn show_peer<
 where
     R::Listener: Sync,
     R::Stream: Send,
-    requires { is_some stage.now.sessions ≡ is_some hosting.now.serve }
+    requires { is_some stage.sessions ≡ is_some hosting.now.serve }
     ensures { IfOk result (λ p. WasShown hosting.now peer p) }
 {
-    match seat_peer(rt.alloc(), peer, MAX_SEATS) {
-        Ok((served, seats)) => {
-            let server = server_of(rt, hosting);
-            match take_part(rt, rt.alloc(), stage, &server, hosting, &served, seats, key) {
-                Ok(back) => Ok(end_serving(served, back)?),
-                Err(error) => Err(error),
-            }
-        }
-        Err(error) => Err(JobError::Command(error)),
-    }
+    show_counted::<Brand, R, F>(rt, stage, hosting, peer, key, Blank::new(WEB_PLACES))
 }
 
 // Prints the page's address, and shows the peer there.
@@ -164,7 +227,7 @@ where
     let page = SocketAddr::new(hosting.page.ip(), port);
     match stage_at(rt, listener, page, hosting.serve) {
         Ok((stage, beside)) => match tell_page(rt.alloc(), page, beside, out) {
-            Ok(()) => show_peer(rt, &stage, hosting, peer, key),
+            Ok(()) => show_peer(rt, stage, hosting, peer, key),
             Err(error) => {
                 drop(peer);
                 Err(error)

@@ -1,6 +1,6 @@
 //! The commands `serve` and `sync`.
 
-ghost use Rattle.std.specs.Prelude.{◌≡◌, ◌⊎◌, ℕ, IfOk, IfErr, None, Ok, OnErr, OnOk, Option};
+ghost use Rattle.std.specs.Prelude.{◌≡◌, ◌⊎◌, ℕ, IfOk, IfErr, None, Ok, OnErr, OnOk, Option, length};
 ghost use Rattle.std.specs.Io.KnownBytes.{Appends, Keeps};
 ghost use Rattle.std.specs.String.{string_bytes};
 ghost use Rattle.tp_textpeer.specs.Output.{AppendsPart};
@@ -9,16 +9,20 @@ ghost use Rattle.tp_report.specs.Telling.{applied_line as line_of_applied, Grows
 ghost use Rattle.tp_disk.specs.Opening.{CutsFile, MayCutFile};
 ghost use Rattle.tp_disk.specs.DiskView.{OfLocked};
 ghost use Rattle.tp_session.specs.declared.session.Role.TheVariants.{Client};
-ghost use Rattle.tp_net.specs.Sessions.{AttemptsSessionAlone};
+ghost use Rattle.tp_net.specs.Sessions.{AllSit, AttemptsSessionAlone};
+ghost use Rattle.tp_served.specs.Calls.{AreOf};
 ghost use Rattle.tp_online.specs.Sessions.{HasMet, ServesJournal, WasServed};
 
+use crate::accepting::{SERVE_PLACES, Teller};
 use crate::listening::{Listening, listen, open_peer};
 use crate::seating::{end_serving, hold, seat_peer};
 use std::alloc::Global;
 use std::fs::OpenFile;
 use std::io::Write;
+use std::marker::Brand;
 use std::net::Net;
 use std::sync::Wait;
+use std::sync::ledger::{Blank, Ledger};
 use std::thread::Threads;
 use std::time::{Clock, Duration};
 use tp_command_line::Address;
@@ -26,8 +30,10 @@ use tp_commands::CommandError;
 use tp_disk::{Disk, draw_actor};
 use tp_journal::{DurableJournal, Journal};
 use tp_net::{Unreached, hold_alone_on, reach};
+use tp_patient::{Patient, Places};
 use tp_peer::Peer;
 use tp_report::{JobError, Log, applied_text, put, report};
+use tp_served::{Seat, Served};
 use tp_session::Role;
 
 /// How a server serves.
@@ -96,6 +102,47 @@ fn tell_applied<W: Write>(alloc: Global, applied: u64, out: &mut W) -> Result<()
     put(out, applied_text(alloc, Some(applied)))
 }
 
+// Holds sessions as [`hold`] does, on places that are counted by the ledger.
+fn hold_counted<
+    K: Ledger + Send + Sync,
+    R: Net + Threads + Wait + Clock + Eprint + AllocGlobal + Sync,
+    J: Journal + Send,
+>(
+    rt: &R,
+    listener: &R::Listener,
+    how: &Serving,
+    served: &Served<J>,
+    seats: Vec<Seat>,
+    blank: Blank,
+) -> Result<Vec<Seat>, JobError>
+where
+    R::Stream: Send,
+    requires are { AreOf served.now.served seats.items }
+    requires name { blank.name ≡ K.name }
+    requires parts { blank.parts ≡ K.parts }
+    requires places { blank.parts ≡ SERVE_PLACES }
+    ensures sat { IfOk result (λ back. AllSit served.now.opened.id seats.items back.items) }
+    ensures of { IfOk result (λ back. AreOf served.now.served back.items
+        × (length back.items ≡ length seats.items)) }
+{
+    let places = Places::<K>::new(blank, SERVE_PLACES);
+    let kept = how.workers as u64;
+    let gate = Log {
+        rt,
+        is_verbose: how.is_verbose,
+    };
+    hold(
+        rt,
+        rt.alloc(),
+        &Patient::new(rt, listener, &places, kept, &Teller),
+        served,
+        seats,
+        how.sessions,
+        how.patience,
+        &gate,
+    )
+}
+
 // Holds the sessions, and ends the serving with the seats that came back: the peer that the closing gives. One whose
 // journal failed meanwhile is refused.
 fn hold_sessions<R: Disk + Net + Threads + Wait + Clock + Eprint + AllocGlobal + Sync>(
@@ -115,19 +162,13 @@ where
     } = listening;
     match seat_peer(rt.alloc(), peer, how.workers) {
         Ok((served, seats)) => {
-            let gate = Log {
+            match hold_counted::<Brand, R, DurableJournal<R::File>>(
                 rt,
-                is_verbose: how.is_verbose,
-            };
-            match hold(
-                rt,
-                rt.alloc(),
                 &listener,
+                how,
                 &served,
                 seats,
-                how.sessions,
-                how.patience,
-                &gate,
+                Blank::new(SERVE_PLACES),
             ) {
                 Ok(back) => Ok(end_serving(served, back)?),
                 Err(error) => Err(error),

@@ -41,6 +41,17 @@ pub(crate) fn send_nothing<W: Write>(alloc: Global, out: &mut W) -> io::Result<(
     respond(alloc, "404 Not Found", "text/plain", "no such page\n", out)
 }
 
+/// Answers that as many ask here as may, and that the browser is to try again in ten seconds.
+pub(crate) fn send_busy<W: Write>(alloc: Global, out: &mut W) -> io::Result<()> {
+    respond(
+        alloc,
+        "503 Service Unavailable\r\nRetry-After: 10\r\nRefresh: 10",
+        "text/plain",
+        "too many ask at once\n",
+        out,
+    )
+}
+
 /// Answers that the request comes from elsewhere.
 pub(crate) fn send_refusal<W: Write>(alloc: Global, out: &mut W) -> io::Result<()> {
     respond(

@@ -1,25 +1,25 @@
-//! One connection, from its request to its end.
+//! A window, from its request to its end.
 
 ghost use Rattle.std.specs.Prelude.{◌≡◌};
 ghost use Rattle.tp_web.specs.Visiting.{Attends};
 ghost use Rattle.tp_window.specs.Windows.{MayEdit};
 
-use crate::actors::Actors;
-use crate::head::{accept, read_head, wanted_by};
-use crate::responding::{send_nothing, send_part, send_refusal};
-use crate::site::{Site, Wanted};
+use crate::head::accept;
+use crate::living::{QUIET, next_message};
+use crate::responding::send_nothing;
+use crate::timed::Timed;
 use std::alloc::{AllocError, Global};
 use std::io::{Read, Write};
 use std::net::OpenStream;
 use std::sync::Wait;
-use std::time::{Clock, Duration, SystemTime};
+use std::time::{Clock, SystemTime};
 use tp_journal::Journal;
 use tp_peer::Peer;
 use tp_served::{Seat, Served, Visitor};
 use tp_window::{Said, Window};
 use tungstenite::{Message, NoMask, Role, WebSocket, WebSocketConfig};
 
-// A request may take this many seconds to come, and an answer to be taken.
+// An answer may take this many seconds to be taken.
 const PATIENCE: u64 = 120;
 
 // A request of a window has at most this many bytes.
@@ -34,13 +34,6 @@ fn now<R: Clock>(rt: &R) -> u64 {
         },
         Err(_) => 0,
     }
-}
-
-// Lets no read and no write wait longer than the patience, where the stream knows such a bound.
-fn limit_waits<S: OpenStream>(stream: &S) {
-    let patience = Some(Duration::from_secs(PATIENCE));
-    let _ = stream.set_read_timeout(patience);
-    let _ = stream.set_write_timeout(patience);
 }
 
 // A request that came in a window, at a time.
@@ -113,10 +106,10 @@ fn send<S: Read + Write + Drop>(
 
 // Reads one message, and answers it if it is a request. Whether the window goes on.
 #[tactic(auto, using(crate::proofs::Attending::stays))]
-fn answer_next<R: Wait + Clock, S: Read + Write + Drop, J: Journal>(
+fn answer_next<R: Wait + Clock, S: Read + Write + OpenStream + Drop, J: Journal>(
     rt: &R,
     alloc: Global,
-    socket: &mut WebSocket<S, NoMask>,
+    socket: &mut WebSocket<Timed<'_, S, R>, NoMask>,
     window: Window,
     served: &Served<J>,
     seat: &mut Seat,
@@ -124,7 +117,7 @@ fn answer_next<R: Wait + Clock, S: Read + Write + Drop, J: Journal>(
     requires { seat.old.served ≡ served.now.served }
     ensures { Attends seat.old seat.new }
 {
-    let Ok(message) = socket.read() else {
+    let Some(message) = next_message(socket) else {
         return false;
     };
     let Message::Text(request) = &message else {
@@ -138,10 +131,10 @@ fn answer_next<R: Wait + Clock, S: Read + Write + Drop, J: Journal>(
 
 // The requests of a window, one after another, until it ends.
 #[tactic(auto, using(crate::proofs::Attending::stays, crate::proofs::Attending::joins))]
-fn show<R: Wait + Clock, S: Read + Write + Drop, J: Journal>(
+fn show<R: Wait + Clock, S: Read + Write + OpenStream + Drop, J: Journal>(
     rt: &R,
     alloc: Global,
-    socket: WebSocket<S, NoMask>,
+    socket: WebSocket<Timed<'_, S, R>, NoMask>,
     window: Window,
     served: &Served<J>,
     seat: &mut Seat,
@@ -164,12 +157,13 @@ fn config() -> WebSocketConfig {
         .max_frame_size(Some(MOST_REQUEST))
 }
 
-// Makes a window of the connection, where its request asks for a WebSocket.
+/// Makes a window of the connection, where its request asks for a WebSocket, and answers its requests until it ends. However it
+/// ends, it ends alone.
 #[tactic(auto, using(crate::proofs::Attending::stays))]
-fn begin<R: Wait + Clock, S: Read + Write + Drop, J: Journal>(
+pub(crate) fn begin<R: Wait + Clock, S: Read + Write + OpenStream + Drop, J: Journal>(
     rt: &R,
     alloc: Global,
-    stream: S,
+    stream: Timed<'_, S, R>,
     request: &[u8],
     window: Window,
     served: &Served<J>,
@@ -183,6 +177,8 @@ fn begin<R: Wait + Clock, S: Read + Write + Drop, J: Journal>(
         let _ = send_nothing(alloc, &mut stream);
         return;
     };
+    stream.limit_writes(PATIENCE);
+    stream.extend(QUIET, false);
     if stream.write_all(&accepted.response).is_err() {
         return;
     }
@@ -195,41 +191,4 @@ fn begin<R: Wait + Clock, S: Read + Write + Drop, J: Journal>(
         Some(config()),
     );
     show(rt, alloc, socket, window, served, seat);
-}
-
-/// Answers the request of a connection, and those of its window if it becomes one, which is that of the actors. However it ends,
-/// it ends alone.
-#[tactic(auto, using(crate::proofs::Attending::stays))]
-pub(crate) fn attend<R: Wait + Clock, S: Read + Write + OpenStream + Drop, J: Journal>(
-    rt: &R,
-    alloc: Global,
-    site: &Site,
-    stream: S,
-    actors: Actors,
-    served: &Served<J>,
-    seat: &mut Seat,
-)
-    requires { seat.old.served ≡ served.now.served }
-    ensures { Attends seat.old seat.new }
-{
-    let mut stream = stream;
-    limit_waits(&stream);
-    let Some(request) = read_head(alloc, &mut stream) else {
-        return;
-    };
-    match wanted_by(site, &request) {
-        Wanted::Part(part) => {
-            let _ = send_part(alloc, part, &mut stream);
-        }
-        Wanted::Window => {
-            let window = actors.window(&request);
-            begin(rt, alloc, stream, &request, window, served, seat);
-        }
-        Wanted::Nothing => {
-            let _ = send_nothing(alloc, &mut stream);
-        }
-        Wanted::Foreign => {
-            let _ = send_refusal(alloc, &mut stream);
-        }
-    }
 }

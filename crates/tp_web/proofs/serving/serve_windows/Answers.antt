@@ -8,7 +8,7 @@ returns-in-Ok-accepted-clause-of g c =
     let went : AllAttend c.args.seats.items c.join-seats.result.0.items = search rules in
     all_still_of c.args.served.now.served c.args.seats.items c.join-seats.result.0.items c.requires went
 
-pub returns-in-Err-clause-err : goal.returns-in-Err-clause-err
-returns-in-Err-clause-err g c =
+pub returns-clause-err : goal.returns-clause-err
+returns-clause-err g c =
     let went : AllAttend c.args.seats.items c.join-seats.result.0.items = search rules in
     (went, all_still_of c.args.served.now.served c.args.seats.items c.join-seats.result.0.items c.requires went, search rules)
