@@ -19,7 +19,7 @@ returns-in-Edit-clause-unsaid g c =
 pub returns-in-Update-clause-unsaid : goal.returns-in-Update-clause-unsaid
 returns-in-Update-clause-unsaid g c =
     let saw = g.D.Folders.saw c.args.rt.now in
-    let update : FileJob = Update c.in-Update.file c.in-Update.source c.in-Update.time c.in-Update.message c.in-Update.key in
+    let update : FileJob = Update c.in-Update.file c.in-Update.source c.in-Update.since c.in-Update.time c.in-Update.message c.in-Update.key in
     let P : FileJob → Type 0 = λ job. IfErr c.put_made-in-Update.result (WasMade (IsFilesPrinted saw job)) in
     subst P (sym c.in-Update.is) (made_of c.put_made-in-Update.result c.update_text.result (IsFilesPrinted saw update) (λ p. string_bytes p.0) c.put_made-in-Update.ensures.unsaid c.update_text.ensures.lines)
 
