@@ -62,6 +62,13 @@ other_length T s near differ same =
     let equal : s.del ≡ length (inserted_chars s) = omega (arith, len, kept, near) in
     differ equal
 
+-- the rest is shorter than the splice
+pub part_shortens : (s p rest : Splice) → IsCutInto s p rest → count_of_splice rest < count_of_splice s
+part_shortens s p rest cut =
+    let sum = inserted_sum s p rest cut in
+    let full : count_of_splice p ≡ MAX_OPS = cut.full in
+    omega (arith, sum, full, cut.deleted)
+
 -- ---- the parts of a splice, and those after them
 
 cut_spliced : (parts later : List Splice) (s : Splice) (T : List ℕ) → IsCutUp s parts → IsInRange (length T) s → all_spliced T (parts ++ later) ≡ all_spliced (done T s) later
@@ -108,8 +115,7 @@ cut_spaced (p ∷ ps) later s from (inr (rest, cut, more)) start some ahead =
     let sum = inserted_sum s p rest cut in
     let ends : s.at + length (inserted_chars s) + 1 ≡ rest.at + length (inserted_chars rest) + 1 = omega (arith, sum, cut.at, cut.next) in
     let left : 0 < count_of_splice rest = some_left rest.del (length (inserted_chars rest)) cut.rest_changes in
-    let full : count_of_splice p ≡ MAX_OPS = cut.full in
-    (
+    let full : count_of_splice p ≡ MAX_OPS = cut.full in (
       omega (arith, start, cut.at),
       omega (arith, full),
       omega (arith, full),
@@ -126,8 +132,7 @@ cut_change (p ∷ ps) later s T (inl one) near changes ahead =
 cut_change (p ∷ ps) later s T (inr (rest, cut, more)) near changes ahead =
     let both = part_near (length T) s p rest cut near in
     let len = length-splice_at T p.at p.del (inserted_chars p) both.0 in
-    let rest_near : IsInRange (length (done T p)) rest = subst (λ n. IsInRange n rest) (sym len) both.1 in
-    (
+    let rest_near : IsInRange (length (done T p)) rest = subst (λ n. IsInRange n rest) (sym len) both.1 in (
       other_length T p both.0 cut.changes,
       cut_change ps later rest (done T p) more rest_near (other_length (done T p) rest rest_near cut.rest_changes)
           (subst (λ t. AllChange t later) (sym (part_done T s p rest cut near)) ahead),

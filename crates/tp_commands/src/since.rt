@@ -10,12 +10,12 @@ ghost use Rattle.tp_peer.specs.Appending.{journal_state};
 ghost use Rattle.tp_recovery.specs.Recovery.{Recovers};
 ghost use Rattle.tp_recovery.specs.Refusals.{IsJournalFault};
 ghost use Rattle.tp_store.specs.declared.error.StoreError.TheVariants.{OutOfMemory as Lack};
-ghost use Rattle.tp_commands.specs.Since.{IsNotRewrittenAt, IsNotUpdatedFrom, IsNotUpdatedSince, MakesEditsAt, MakesNextAt, MakesTextAt, StopsNextAt, UpdatesFrom, UpdatesSince};
+ghost use Rattle.tp_commands.specs.Since.{IsNotRewrittenAt, IsNotUpdatedFrom, IsNotUpdatedSince, MakesEditsAt, MakesNextAt, MakesTextAt, StopsEditsAt, StopsNextAt, UpdatesFrom, UpdatesSince};
 
 use crate::cutting::differences_in_parts;
 use crate::editing::reopen;
 use crate::error::CommandError;
-use crate::reading::Recovery;
+use crate::reading::{Recovery, earlier_text};
 use crate::updating::{group_len, update_now};
 use std::alloc::Global;
 use tp_edit::Splice;
@@ -62,29 +62,29 @@ fn edit_on<J: Journal>(
     }
 }
 
-// Makes the edits of the splices, in turn, at the hashes, by as few changes as it takes. Answers their hashes.
+// Makes the edits of the splices, in turn, at the hashes, by as few changes as it takes. Answers their hashes, and leaves that of
+// the last in place of those.
 fn edit_all_at<J: Journal>(
     alloc: Global,
     peer: &mut Peer<J>,
-    since: &[Hash],
+    on: &mut Vec<Hash>,
     splices: &[Splice],
     by: &Metadata<'_>,
 ) -> Result<Vec<Hash>, CommandError>
     requires runs { peer.old.stopped ≡ false }
     requires some { All (λ s. 0 < count_of_splice s) splices.now }
-    ensures ok { IfOk result (λ hashes. (on : List Hash)
-        × MakesEditsAt peer.old since.now by.now.actor splices.now [] by.now.time
-        (chars by.now.message.now) on hashes.items peer.new
-        × DoesSplices (past peer.old.applied since.now) (past peer.new.applied on) splices.now) }
-    ensures err { IfErr result (IsNotRewrittenAt peer.old since.now by.now.actor by.now.time
-        (chars by.now.message.now)) }
+    ensures ok { IfOk result (λ hashes. MakesEditsAt peer.old on.old.items by.now.actor splices.now []
+        by.now.time (chars by.now.message.now) on.new.items hashes.items peer.new) }
+    ensures text { OnOk result (DoesSplices (past peer.old.applied on.old.items)
+        (past peer.new.applied on.new.items) splices.now) }
+    ensures err { IfErr result (λ e. (e ≡ CommandError.OutOfMemory)
+        ⊎ StopsEditsAt peer.old on.old.items by.now.actor by.now.time (chars by.now.message.now) e) }
 {
-    let mut on = since.to_vec(alloc)?;
     let mut hashes = Vec::new(alloc);
     let mut from = 0;
     while from < splices.len() {
         let end = from + group_len(&splices[from..]);
-        edit_on(peer, &mut on, &mut hashes, &splices[from..end], by)?;
+        edit_on(peer, on, &mut hashes, &splices[from..end], by)?;
         from = end;
     }
     Ok(hashes)
@@ -104,9 +104,13 @@ fn rewrite_at<J: Journal>(
     ensures err { IfErr result (IsNotRewrittenAt peer.old since.now by.now.actor by.now.time
         (chars by.now.message.now)) }
 {
-    let before = peer.document().text_at(since)?;
+    let before = earlier_text(peer.document(), since)?;
     let splices = differences_in_parts(alloc, before.as_str(), text)?;
-    edit_all_at(alloc, peer, since, &splices, by)
+    let mut on = since.to_vec(alloc)?;
+    match edit_all_at(alloc, peer, &mut on, &splices, by) {
+        Ok(hashes) => Ok(hashes),
+        Err(error) => Err(error),
+    }
 }
 
 // Makes the journal's text at the heads this one, beside what came since; it comes with what its content recovered to.

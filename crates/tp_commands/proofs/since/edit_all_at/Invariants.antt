@@ -9,8 +9,8 @@ use Rattle.tp_commands.proofs.since.edit_all_at.Given as goal
 abbrev pub invariant-loop-from : goal.invariant-loop-from
 invariant-loop-from g l = record {
   within : l.from ≤ length l.splices;
-  makes : MakesEditsAt l.fn.peer l.since l.by.actor l.splices (drop l.from l.splices) l.by.time (chars l.by.message.now) l.on.items l.hashes.items l.peer;
-  leads : LeadOn (past l.fn.peer.applied l.since) (past l.peer.applied l.on.items) l.splices (drop l.from l.splices);
+  makes : MakesEditsAt l.fn.peer l.fn.on.items l.by.actor l.splices (drop l.from l.splices) l.by.time (chars l.by.message.now) l.on.items l.hashes.items l.peer;
+  leads : LeadOn (past l.fn.peer.applied l.fn.on.items) (past l.peer.applied l.on.items) l.splices (drop l.from l.splices);
 }
 
 abbrev pub decreases-loop-from : goal.decreases-loop-from
