@@ -1,5 +1,6 @@
 -- Splices that are cut into parts lead where they led.
-use Rattle.std.proofs.Common.{◌≡◌, ◌≢◌, ◌∙◌, ap, refl, sym, subst, ℕ, ◌+◌, ◌-◌, ◌<◌, ◌≤◌, List, [], ◌∷◌, ◌++◌, length, take, drop, inl, inr, arith, append_assoc, append-nil, length-append, nat_tests}
+use Rattle.std.proofs.Common.{◌≡◌, ◌≢◌, ◌∙◌, ap, refl, sym, subst, ℕ, ◌+◌, ◌-◌, ◌<◌, ◌≤◌, List, [], ◌∷◌, ◌++◌, length, take, drop, inl, inr, arith, append_assoc, append-nil, length-append}
+use Rattle.std.proofs.lemmas.Bool.Decides.{nat_tests}
 use Rattle.std.specs.Prelude.{◌⊎◌, ◌==◌, if◌then◌else◌}
 use Rattle.std.proofs.lemmas.List.{drop-drop, drop_at, length-take-le}
 use Rattle.std.proofs.Math.Seq.{take-append_seam}
@@ -61,13 +62,6 @@ other_length T s near differ same =
     let kept = ap length same in
     let equal : s.del ≡ length (inserted_chars s) = omega (arith, len, kept, near) in
     differ equal
-
--- the rest is shorter than the splice
-pub part_shortens : (s p rest : Splice) → IsCutInto s p rest → count_of_splice rest < count_of_splice s
-part_shortens s p rest cut =
-    let sum = inserted_sum s p rest cut in
-    let full : count_of_splice p ≡ MAX_OPS = cut.full in
-    omega (arith, sum, full, cut.deleted)
 
 -- ---- the parts of a splice, and those after them
 
@@ -188,16 +182,9 @@ pub record ArePartsBefore (stretch rest : Splice) (before now : List Splice) : T
   pub are : now ≡ before ++ put
   pub ahead : (ps : List Splice) → IsCutUp rest ps → IsCutUp stretch (put ++ ps)
 
-pub parts_begin : (stretch : Splice) (before : List Splice) → ArePartsBefore stretch stretch before before
-parts_begin stretch before = record { put = []; are = sym (append-nil before); ahead = λ ps up. up }
-
 pub parts_on : (stretch rest part next : Splice) (before now after : List Splice) → ArePartsBefore stretch rest before now → IsCutInto rest part next → after ≡ now ++ part ∷ [] → ArePartsBefore stretch next before after
 parts_on stretch rest part next before now after h cut is = record {
   put = h.put ++ part ∷ [];
   are = is ∙ ap (λ l. l ++ part ∷ []) h.are ∙ append_assoc before h.put (part ∷ []);
   ahead = λ ps up. subst (IsCutUp stretch) (sym (append_assoc h.put (part ∷ []) ps)) (h.ahead (part ∷ ps) (inr (next, cut, up)));
 }
-
-pub parts_end : (stretch rest : Splice) (before now after : List Splice) → ArePartsBefore stretch rest before now → count_of_splice rest ≤ MAX_OPS → after ≡ now ++ rest ∷ [] → (cut : List Splice) × (after ≡ before ++ cut) × IsCutUp stretch cut
-parts_end stretch rest before now after h few is =
-    (h.put ++ rest ∷ [], is ∙ ap (λ l. l ++ rest ∷ []) h.are ∙ append_assoc before h.put (rest ∷ []), h.ahead (rest ∷ []) (inl (refl, refl, few)))

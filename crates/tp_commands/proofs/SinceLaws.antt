@@ -1,6 +1,6 @@
 -- Edits of an earlier text, each on the one before it.
-use Rattle.std.proofs.Common.{◌≡◌, ◌∙◌, ap, refl, sym, subst, ℕ, suc, ◌<◌, ◌≤◌, List, [], ◌∷◌, ◌++◌, length, Bool, true, false, Option, Some, None, Result, Ok, Err, inl, inr, arith, append_assoc, append-nil}
-use Rattle.std.specs.Prelude.{◌⊎◌, IsTrue, MatchBool, MatchResult}
+use Rattle.std.proofs.Common.{◌≡◌, ◌∙◌, ap, refl, sym, subst, ℕ, suc, ◌<◌, ◌≤◌, List, [], ◌∷◌, ◌++◌, length, Bool, true, false, Option, Some, None, Result, Ok, Err, arith, append_assoc, append-nil}
+use Rattle.std.specs.Prelude.{IsTrue, MatchBool, MatchResult}
 use Rattle.tp_layout.specs.declared.parts.ChangeParts.{ChangeParts}
 use Rattle.tp_layout.specs.declared.limits.TheConstants.{MAX_OPS}
 use Rattle.tp_change.specs.ChangeHash.{hash_of}
@@ -23,8 +23,7 @@ use Rattle.tp_peer.specs.declared.editing_at.EditAtError.TheVariants as edit_at
 use Rattle.tp_peer.specs.declared.error.PeerError.TheVariants as peer
 use Rattle.tp_commands.specs.CommandError.{refusal_of_edit_at}
 use Rattle.tp_commands.specs.declared.error.CommandError.{CommandError}
-use Rattle.tp_commands.specs.declared.error.CommandError.TheVariants.{OutOfMemory}
-use Rattle.tp_commands.specs.Since.{AreEditsAt, IsNotRewrittenAt, MakesEditsAt, MakesNextAt, MakesTextAt, StopsEditsAt, UpdatesSince, heads_after}
+use Rattle.tp_commands.specs.Since.{AreEditsAt, MakesEditsAt, MakesNextAt, MakesTextAt, StopsEditsAt, UpdatesSince, heads_after}
 use Rattle.tp_commands.specs.Updating.{IsFullBefore, hashes_of}
 use Rattle.tp_commands.proofs.Updates.{hashes-push, total_count-append}
 
@@ -126,16 +125,6 @@ stops_one_at q q' actor next time message on hashes error running step e is p H 
       (steps_running q q' on (asking actor next time message) (Err error) running step);
   is_error = is;
 }
-
--- so a text wasn't made another one
-pub not_rewritten : (p : PeerState) (H : List Hash) (actor : Actor) (time : ℕ) (message : List ℕ) (e : CommandError) → (e ≡ OutOfMemory) ⊎ StopsEditsAt p H actor time message e → IsNotRewrittenAt p H actor time message e
-not_rewritten p H actor time message e (inl memory) = inl memory
-not_rewritten p H actor time message e (inr stops) = inr (inr stops)
-
--- all of the hashes are of changes where none of them is unknown
-pub all_known : (b : Bool) → (b ≡ false → ⊥) → IsTrue b
-all_known true known = refl
-all_known false known = absurd (known refl)
 
 -- ---- journals
 
