@@ -488,7 +488,7 @@ fn since<'a>(alloc: Global) -> Arg<'a>
         alloc,
         "since",
         "HASH",
-        "the heads of the text that the file was taken from, all of them last: what came since stays; the text now if left out",
+        "the heads at which the file was taken out, as the last words: what came since stays; the text now if left out",
     )
     .num_args(1..)
     .action(ArgAction::Append)
