@@ -13,7 +13,7 @@ KINDS = {"FILE": FILE, "OTHER": FILE, "OUT": FILE, "SAVED": FILE, "LOG": FILE, "
          "AT": OTHER, "PAGE": OTHER}
 SECTION = re.compile(r"^(Commands|Arguments|Options|Example):\n((?:  .*(?:\n|\Z))+)", re.M)
 VALUE = re.compile(r"  [<\[](\w+)[>\]](\.\.\.)? +(.+)")
-OPTION = re.compile(r"  (?:(-\w), |    )(--[\w-]+)(?: (<\w+>|\[<\w+>\]))?  +(.+)")
+OPTION = re.compile(r"  (?:(-\w), |    )(--[\w-]+)(?: (<\w+>|\[<\w+>\])(\.\.\.)?)?  +(.+)")
 
 
 @dataclass
@@ -40,11 +40,12 @@ class Value:
 @dataclass
 class Option:
     """An option: its short name if it has one, its name, that of its value if it takes one, in brackets where it may be left
-    out, whether it has to be given, and what it is for."""
+    out, whether several may come after it, whether it has to be given, and what it is for."""
 
     short: str
     name: str
     value: str
+    is_many: bool
     is_required: bool
     about: str
 
@@ -56,7 +57,7 @@ class Option:
     @property
     def shown(self):
         """As a synopsis has it."""
-        words = " ".join(filter(None, [self.name, self.value]))
+        words = " ".join(filter(None, [self.name, self.value, ".." if self.is_many else ""]))
         return words if self.is_required else f"[{words}]"
 
 
@@ -109,8 +110,8 @@ def lines_of(sections, name, shape):
 
 def options_of(sections, usage):
     """The options of a help: those of the usage have to be given."""
-    return [Option(short, name, re.sub("[<>]", "", value or ""), f" {name} " in usage, about)
-            for short, name, value, about in lines_of(sections, "Options", OPTION)]
+    return [Option(short, name, re.sub("[<>]", "", value or ""), many is not None, f" {name} " in usage, about)
+            for short, name, value, many, about in lines_of(sections, "Options", OPTION)]
 
 
 def read_command(name):

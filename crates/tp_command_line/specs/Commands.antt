@@ -12,7 +12,7 @@ use Rattle.tp_command_line.specs.declared.job.Inserted.TheVariants.{Given, InFil
 use Rattle.tp_command_line.specs.declared.job.Job.{Job}
 use Rattle.tp_command_line.specs.declared.job.Subject.{Subject}
 use Rattle.tp_command_line.specs.declared.job.Job.TheVariants.{Files, Follow, Serve, Session, Sync, Web}
-use Rattle.tp_command_line.specs.Rules.{file_rule, flag_rule, follow_rule, key_rule, mandatory, message_rule, most_rule, numeric, option_rule, options_rule, page_rule, patience_rule, required_rule, server_rule, sessions_rule, several, time_rule, workers_rule}
+use Rattle.tp_command_line.specs.Rules.{file_rule, flag_rule, follow_rule, key_rule, list_rule, mandatory, message_rule, most_rule, numeric, option_rule, options_rule, page_rule, patience_rule, required_rule, server_rule, sessions_rule, several, time_rule, workers_rule}
 use Rattle.tp_command_line.specs.Values.{HasAddress, HasFlag, HasHashes, HasHeads, HasHosting, HasKey, HasNumber, MayHaveNumber}
 
 -- ---- shapes
@@ -42,9 +42,9 @@ abbrev pub whole_text_shape : Text → Shape
 whole_text_shape name = with_rules name
     (file_rule ∷ required_rule (codes "TEXT") ∷ time_rule ∷ message_rule ∷ key_rule ∷ [])
 
--- `update` with these
+-- `update` with these, and `[--since HASH ..]`
 abbrev pub update_shape : Shape
-update_shape = whole_text_shape (codes "update")
+update_shape = with_rules (codes "update") ((whole_text_shape (codes "update")).rules ++ list_rule (codes "since") ∷ [])
 
 -- `import` with these
 abbrev pub import_shape : Shape
@@ -176,8 +176,8 @@ IsJobOf name rows (Files (Edit file at del text time message key)) = (name ≡ c
     × HasText (codes "FILE") rows file × HasNumber (codes "at") rows at
     × HasNumber (codes "del") rows del × HasInserted rows text
     × HasNumber (codes "time") rows time × HasText (codes "message") rows message × HasKey rows key
-IsJobOf name rows (Files (Update file source time message key)) = (name ≡ codes "update")
-    × HasText (codes "FILE") rows file × HasText (codes "TEXT") rows source
+IsJobOf name rows (Files (Update file source since time message key)) = (name ≡ codes "update")
+    × HasText (codes "FILE") rows file × HasText (codes "TEXT") rows source × HasHashes (codes "since") rows since.items
     × HasNumber (codes "time") rows time × HasText (codes "message") rows message × HasKey rows key
 IsJobOf name rows (Files (Import file source time message key)) = (name ≡ codes "import")
     × HasText (codes "FILE") rows file × HasText (codes "TEXT") rows source
@@ -239,7 +239,7 @@ subject_of (Files (Recover file out)) = record { file = file; beside = Made out 
 subject_of (Files (New file key)) = record { file = file; beside = Made file }
 subject_of (Files (Edit file at del (Given text) time message key)) = record { file = file; beside = Nothing }
 subject_of (Files (Edit file at del (InFile source) time message key)) = record { file = file; beside = Read source }
-subject_of (Files (Update file source time message key)) = record { file = file; beside = Read source }
+subject_of (Files (Update file source since time message key)) = record { file = file; beside = Read source }
 subject_of (Files (Import file source time message key)) = record { file = file; beside = Read source }
 subject_of (Files (ReadText file is_raw heads)) = record { file = file; beside = Nothing }
 subject_of (Files (Heads file)) = record { file = file; beside = Nothing }

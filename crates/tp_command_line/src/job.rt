@@ -61,6 +61,8 @@ pub enum FileJob<'a> {
         file: &'a str,
         /// The path of the file; `-` is the standard input.
         source: &'a str,
+        /// The heads of the text that the file was taken from; where there are none it is the text now.
+        since: Vec<Hash>,
         /// The time of the changes; 0 where none is given.
         time: u64,
         /// The message of the changes; empty where none is given.
@@ -349,7 +351,7 @@ fn edit_of<'a>(found: &ArgMatches<'a>) -> Result<Job<'a>, ValueError>
 }
 
 // The text that `update` asks for.
-fn update_of<'a>(found: &ArgMatches<'a>) -> Result<Job<'a>, ValueError>
+fn update_of<'a>(alloc: Global, found: &ArgMatches<'a>) -> Result<Job<'a>, ValueError>
     requires { IsUse (codes "update") (rows_of (found_of found.now)) }
     ensures ok { IfOk result (IsJobOf (codes "update") (rows_of (found_of found.now))) }
     ensures err { IfErr result (RefusesValue (rows_of (found_of found.now))) }
@@ -357,6 +359,7 @@ fn update_of<'a>(found: &ArgMatches<'a>) -> Result<Job<'a>, ValueError>
     Ok(Job::Files(FileJob::Update {
         file: text_of(found, "update", "FILE"),
         source: text_of(found, "update", "TEXT"),
+        since: hashes_of(alloc, found, "since")?,
         time: number_of(found, "update", "time"),
         message: text_of(found, "update", "message"),
         key: key_of(found)?,
@@ -484,7 +487,7 @@ pub(crate) fn job_of<'a>(
             key: key_of(found)?,
         })),
         "edit" => edit_of(found),
-        "update" => update_of(found),
+        "update" => update_of(alloc, found),
         "import" => import_of(found),
         "text" => Ok(Job::Files(FileJob::Text {
             file: text_of(found, name, "FILE"),

@@ -85,12 +85,13 @@ pub fn carry_out<D: Disk + AllocGlobal, I: Read, W: Write>(
         FileJob::Update {
             file,
             source,
+            since,
             time,
             message,
             key,
         } => put_made(
             out,
-            update_text(rt, file, source, input, time, message, key, cut),
+            update_text(rt, file, source, &since, input, time, message, key, cut),
         ),
         FileJob::Import {
             file,

@@ -1,7 +1,7 @@
 use Rattle.std.specs.Str.{chars}
 use Rattle.tp_peer.specs.Appending.{journal_state}
 use Rattle.tp_commands.proofs.Updates.{updates_of}
-use Rattle.tp_commands.proofs.updating.update.Goals as goal
+use Rattle.tp_commands.proofs.updating.update_now.Goals as goal
 
 pub returns-in-Ok-made-clause-updates : goal.returns-in-Ok-made-clause-updates
 returns-in-Ok-made-clause-updates g c =
