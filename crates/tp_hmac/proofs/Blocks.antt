@@ -1,4 +1,4 @@
--- Short keys as blocks, and blocks told by their bytes.
+-- Short keys as blocks, and blocks by their bytes.
 use Rattle.std.proofs.Common.{◌≡◌, ◌≤◌, ◌<◌, ◌∙◌, ℕ, List, ◌++◌, length, drop, replicate, map, bit_xor, get_or, ◌+◌, set, below_more, ap, sym, rules, arith}
 use Rattle.std.proofs.lemmas.List.{drop-replicate, ext_get_or, get_or-map, length-map, get_or-set_other, get_or-set_same}
 use Rattle.tp_hmac.specs.Hmac.{key_block}

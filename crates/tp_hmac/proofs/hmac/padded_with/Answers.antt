@@ -1,4 +1,4 @@
--- A list is told by its elements.
+-- A list is what its elements are.
 use Rattle.std.proofs.Common.{rules, arith}
 use Rattle.tp_hmac.proofs.Blocks.{all_padded, one_more}
 use Rattle.tp_hmac.proofs.hmac.padded_with.Goals as goal
