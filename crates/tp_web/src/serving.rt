@@ -54,7 +54,7 @@ fn accept_all<R: Wait, S: Drop, L: OpenListener<Stream = S>>(
 
 // A worker: it takes one connection after another, until no more come.
 #[tactic(auto, using(crate::proofs::Attending::stays, crate::proofs::Attending::joins))]
-fn work<R: Wait + Clock, S: Read + Write + OpenStream + Drop, J: Journal>(
+fn work<R: Wait + Clock + Eprint, S: Read + Write + OpenStream + Drop, J: Journal>(
     rt: &R,
     alloc: Global,
     site: &Site,
@@ -84,7 +84,7 @@ fn work<R: Wait + Clock, S: Read + Write + OpenStream + Drop, J: Journal>(
 
 // One worker for each seat, side by side. The seats come back.
 fn work_on_all<
-    R: Threads + Wait + Clock + Sync,
+    R: Threads + Wait + Clock + Eprint + Sync,
     S: Read + Write + OpenStream + Send + Drop,
     J: Journal + Send,
 >(
@@ -129,7 +129,7 @@ fn work_on_all<
 /// Contracts see of each seat the turns that led it on; in each turn the peer stayed or made one edit. How many there
 /// were they don't say, nor anything of what goes over the sockets.
 pub fn serve_windows<
-    R: Threads + Wait + Clock + Sync,
+    R: Threads + Wait + Clock + Eprint + Sync,
     S: Read + Write + OpenStream + Send + Drop,
     L: OpenListener<Stream = S>,
     J: Journal + Send,

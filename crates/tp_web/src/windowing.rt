@@ -5,6 +5,7 @@ ghost use Rattle.tp_web.specs.Visiting.{Attends};
 ghost use Rattle.tp_window.specs.Windows.{MayEdit};
 
 use crate::actors::Actors;
+use crate::greeting::{Welcome, greet};
 use crate::head::{accept, read_head, wanted_by};
 use crate::responding::{send_nothing, send_part, send_refusal};
 use crate::site::{Site, Wanted};
@@ -47,9 +48,24 @@ fn limit_waits<S: OpenStream>(stream: &S) {
 #[derive(Drop)]
 struct Asked<'a> {
     alloc: Global,
-    window: Window,
+    window: &'a Window,
     time: u64,
     request: &'a str,
+}
+
+// A window that is asked for, and what its page has to know.
+#[derive(Drop)]
+struct Asking {
+    window: Window,
+    key: [u8; 16],
+    challenge: [u8; 16],
+}
+
+// A window whose page has shown that it knows the key.
+#[derive(Drop)]
+struct Admitted {
+    window: Window,
+    welcome: Welcome,
 }
 
 impl<J: Journal> Visitor<J> for Asked<'_> {
@@ -58,21 +74,21 @@ impl<J: Journal> Visitor<J> for Asked<'_> {
 
     type Answer = Result<Said, AllocError>;
 
-    ghost does = { λ asked p p'. MayEdit asked.window.actor p p' };
+    ghost does = { λ asked p p'. MayEdit asked.window.now.actor p p' };
 
     fn visit(&self, peer: &mut Peer<J>) -> Result<Said, AllocError> {
         self.window
             .answer(self.alloc, peer, self.time, self.request)
     }
 
-    ghost serves = { λ asked p p' done n. let k = edits_keep asked.window.actor p p' done in record { id = k.1.id; actor = k.1.actor; new = k.1.new; applied = k.1.applied; links = λ m other. k.1.others m refl } };
+    ghost serves = { λ asked p p' done n. let k = edits_keep asked.window.now.actor p p' done in record { id = k.1.id; actor = k.1.actor; new = k.1.new; applied = k.1.applied; links = λ m other. k.1.others m refl } };
 }
 
 // Answers one request on a turn of the seat. `None` where there is no memory for an answer.
 fn answer<R: Wait + Clock, J: Journal>(
     rt: &R,
     alloc: Global,
-    window: Window,
+    window: &Window,
     request: &str,
     served: &Served<J>,
     seat: &mut Seat,
@@ -92,32 +108,45 @@ fn answer<R: Wait + Clock, J: Journal>(
     }
 }
 
-// Sends what is said, and says whether the window goes on.
-fn send<S: Read + Write + Drop>(
+// Sends what is said, and says whether the window goes on. Its heads are kept before: a page may name them by their number. A
+// refusal is written on the standard error too, but for those of a peer that has stopped, which said so when it did.
+fn send<R: Eprint, S: Read + Write + Drop>(
+    rt: &R,
     alloc: Global,
     socket: &mut WebSocket<S, NoMask>,
-    said: &Said,
+    window: &mut Window,
+    said: Said,
 ) -> bool {
+    if let Some(heads) = said.heads {
+        if window.remember(heads).is_err() {
+            return false;
+        }
+    }
     let Ok(message) = Message::text(alloc, &said.text) else {
         return false;
     };
     if socket.send(message).is_err() {
         return false;
     }
-    if said.is_last {
-        let _ = socket.close(None);
-        return false;
+    match said.refusal {
+        Some(refusal) => {
+            if !refusal.is_stopped() {
+                let _ = eprintln!(rt; "window {refusal}");
+            }
+            let _ = socket.close(None);
+            false
+        }
+        None => true,
     }
-    true
 }
 
 // Reads one message, and answers it if it is a request. Whether the window goes on.
 #[tactic(auto, using(crate::proofs::Attending::stays))]
-fn answer_next<R: Wait + Clock, S: Read + Write + Drop, J: Journal>(
+fn answer_next<R: Wait + Clock + Eprint, S: Read + Write + Drop, J: Journal>(
     rt: &R,
     alloc: Global,
     socket: &mut WebSocket<S, NoMask>,
-    window: Window,
+    window: &mut Window,
     served: &Served<J>,
     seat: &mut Seat,
 ) -> bool
@@ -131,18 +160,18 @@ fn answer_next<R: Wait + Clock, S: Read + Write + Drop, J: Journal>(
         return true;
     };
     match answer(rt, alloc, window, request.as_str(), served, seat) {
-        Some(said) => send(alloc, socket, &said),
+        Some(said) => send(rt, alloc, socket, window, said),
         None => false,
     }
 }
 
-// The requests of a window, one after another, until it ends.
+// The requests of a window whose page was admitted, one after another, until it ends.
 #[tactic(auto, using(crate::proofs::Attending::stays, crate::proofs::Attending::joins))]
-fn show<R: Wait + Clock, S: Read + Write + Drop, J: Journal>(
+fn show<R: Wait + Clock + Eprint, S: Read + Write + Drop, J: Journal>(
     rt: &R,
     alloc: Global,
     socket: WebSocket<S, NoMask>,
-    window: Window,
+    admitted: Admitted,
     served: &Served<J>,
     seat: &mut Seat,
 )
@@ -150,8 +179,12 @@ fn show<R: Wait + Clock, S: Read + Write + Drop, J: Journal>(
     ensures { Attends seat.old seat.new }
 {
     let mut socket = socket;
+    let Admitted {
+        mut window,
+        welcome: _,
+    } = admitted;
     for _ in rt.forever() {
-        if !answer_next(rt, alloc, &mut socket, window, served, seat) {
+        if !answer_next(rt, alloc, &mut socket, &mut window, served, seat) {
             break;
         }
     }
@@ -164,14 +197,14 @@ fn config() -> WebSocketConfig {
         .max_frame_size(Some(MOST_REQUEST))
 }
 
-// Makes a window of the connection, where its request asks for a WebSocket.
+// Makes a window of the connection, where its request asks for a WebSocket, and its page shows that it knows the key.
 #[tactic(auto, using(crate::proofs::Attending::stays))]
-fn begin<R: Wait + Clock, S: Read + Write + Drop, J: Journal>(
+fn begin<R: Wait + Clock + Eprint, S: Read + Write + Drop, J: Journal>(
     rt: &R,
     alloc: Global,
     stream: S,
     request: &[u8],
-    window: Window,
+    asking: Asking,
     served: &Served<J>,
     seat: &mut Seat,
 )
@@ -186,7 +219,7 @@ fn begin<R: Wait + Clock, S: Read + Write + Drop, J: Journal>(
     if stream.write_all(&accepted.response).is_err() {
         return;
     }
-    let socket = WebSocket::from_partially_read(
+    let mut socket = WebSocket::from_partially_read(
         alloc,
         stream,
         NoMask,
@@ -194,13 +227,20 @@ fn begin<R: Wait + Clock, S: Read + Write + Drop, J: Journal>(
         Role::Server,
         Some(config()),
     );
-    show(rt, alloc, socket, window, served, seat);
+    let Some(welcome) = greet(alloc, &mut socket, &asking.key, &asking.challenge) else {
+        return;
+    };
+    let admitted = Admitted {
+        window: asking.window,
+        welcome,
+    };
+    show(rt, alloc, socket, admitted, served, seat);
 }
 
 /// Answers the request of a connection, and those of its window if it becomes one, which is that of the actors. However it ends,
 /// it ends alone.
 #[tactic(auto, using(crate::proofs::Attending::stays))]
-pub(crate) fn attend<R: Wait + Clock, S: Read + Write + OpenStream + Drop, J: Journal>(
+pub(crate) fn attend<R: Wait + Clock + Eprint, S: Read + Write + OpenStream + Drop, J: Journal>(
     rt: &R,
     alloc: Global,
     site: &Site,
@@ -222,8 +262,13 @@ pub(crate) fn attend<R: Wait + Clock, S: Read + Write + OpenStream + Drop, J: Jo
             let _ = send_part(alloc, part, &mut stream);
         }
         Wanted::Window => {
-            let window = actors.window(&request);
-            begin(rt, alloc, stream, &request, window, served, seat);
+            let secret = site.secret();
+            let asking = Asking {
+                window: actors.window(alloc, &request),
+                key: secret.key,
+                challenge: secret.challenge(actors.number),
+            };
+            begin(rt, alloc, stream, &request, asking, served, seat);
         }
         Wanted::Nothing => {
             let _ = send_nothing(alloc, &mut stream);
