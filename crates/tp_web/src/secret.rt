@@ -1,7 +1,7 @@
 //! What a page's program and its windows know, and nobody else.
 
 use rand_chacha::ChaCha20Rng;
-use rand_core::{RngCore, SeedableRng};
+use rand_core::{Rng, SeedableRng};
 
 /// What makes a page one of this run of the program. Both are to be drawn from the system, anew for each run.
 #[derive(Clone, Copy)]

@@ -117,18 +117,23 @@ fn send<R: Eprint, S: Read + Write + Drop>(
     window: &mut Window,
     said: Said,
 ) -> bool {
-    if let Some(heads) = said.heads {
+    let Said {
+        text,
+        heads,
+        refusal,
+    } = said;
+    if let Some(heads) = heads {
         if window.remember(heads).is_err() {
             return false;
         }
     }
-    let Ok(message) = Message::text(alloc, &said.text) else {
+    let Ok(message) = Message::text(alloc, &text) else {
         return false;
     };
     if socket.send(message).is_err() {
         return false;
     }
-    match said.refusal {
+    match refusal {
         Some(refusal) => {
             if !refusal.is_stopped() {
                 let _ = eprintln!(rt; "window {refusal}");
