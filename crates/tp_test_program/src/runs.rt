@@ -13,6 +13,7 @@ use crate::world::World;
 use std::fs::File;
 use std::io::ErrorKind;
 use std::rt::Files;
+use std::time::Clock;
 use std::{fs, io};
 use tp_command_line::{Job, line};
 use tp_commands::CommandError;
@@ -52,7 +53,7 @@ fn limits_of(words: &mut Words) -> Result<Limits, Fault> {
 }
 
 // Does a job that needs no network; one that needs it is refused as `Io`.
-fn run_job<R: Files + Print + AllocGlobal>(
+fn run_job<R: Files + Clock + Print + AllocGlobal>(
     rt: &R,
     job: Job,
     input: &mut &[u8],
@@ -69,7 +70,7 @@ where
 }
 
 // The program, as far as it needs no network, with what the standard input gives: the exit status.
-fn run_program<R: Files + Print + Eprint + AllocGlobal>(
+fn run_program<R: Files + Clock + Print + Eprint + AllocGlobal>(
     rt: &R,
     words: &[String],
     input: &[u8],
