@@ -9,6 +9,11 @@ use clap::builder::ValueParser;
 use clap::{Arg, ArgAction, Command, value_parser};
 use std::alloc::{AllocError, Global};
 
+// What is said below the commands. The words that it names are read before the parser has the others.
+const ANYWHERE: &str =
+    "Anywhere before --:\n      --explain  says below a refusal which file it is about and what to do, as always on a terminal\n\n\
+`textpeer help COMMAND` is `textpeer COMMAND --help`";
+
 /// The definition of the program's command line.
 pub(crate) fn textpeer_command<'a>(alloc: Global) -> Result<Command<'a>, AllocError>
     ensures { IfOk result (λ c. app_of c ≡ textpeer_app) }
@@ -151,6 +156,7 @@ fn program<'a>(alloc: Global) -> Command<'a>
     Command::new(alloc, "textpeer")
         .version("0.1.0")
         .about("Keeps a text in step between peers")
+        .after_help(ANYWHERE)
         .disable_help_subcommand(true)
         .subcommand_required(true)
 }

@@ -265,10 +265,20 @@ pub struct Hosting<'a> {
 pub enum Beside<'a> {
     /// There is none.
     Nothing,
-    /// It is read.
+    /// There is none, and the first file is no journal.
+    NoJournal,
+    /// It is a journal that is read.
     Read(&'a str),
+    /// It is a text that is read; `-` is the standard input.
+    Text(&'a str),
     /// It is made.
     Made(&'a str),
+    /// It is a journal that is made of the first one, a saved file.
+    Loaded(&'a str),
+    /// It is the other side of a session over the standard input and output.
+    Streams,
+    /// It is the address that is listened on.
+    Here(Address<'a>),
     /// It is a server, at the address.
     There(Address<'a>),
     /// It is a page, at its address.
@@ -291,8 +301,8 @@ impl<'a> Job<'a> {
     {
         let (file, beside) = match self {
             Job::Files(job) => return subject_of_files(job),
-            Job::Serve { file, addr, .. } => (file, Beside::There(*addr)),
-            Job::Session { file, .. } => (file, Beside::Nothing),
+            Job::Serve { file, addr, .. } => (file, Beside::Here(*addr)),
+            Job::Session { file, .. } => (file, Beside::Streams),
             Job::Sync { file, addr, .. } => (file, Beside::There(*addr)),
             Job::Follow { file, addr, .. } => (file, Beside::There(*addr)),
             Job::Web { file, hosting, .. } => (file, Beside::Page(*hosting)),
@@ -309,16 +319,16 @@ fn subject_of_files<'a>(job: &FileJob<'a>) -> Subject<'a>
         FileJob::New { file, .. } => (file, Beside::Made(file)),
         FileJob::Merge { file, other, .. } => (file, Beside::Read(other)),
         FileJob::Save { file, out } => (file, Beside::Made(out)),
-        FileJob::Load { saved, file } => (saved, Beside::Made(file)),
+        FileJob::Load { saved, file } => (saved, Beside::Loaded(file)),
         FileJob::Recover { file, out } => (file, Beside::Made(out)),
         FileJob::Edit {
             file,
             text: Inserted::InFile(source),
             ..
-        } => (file, Beside::Read(source)),
+        } => (file, Beside::Text(source)),
         FileJob::Edit { file, .. } => (file, Beside::Nothing),
-        FileJob::Update { file, source, .. } => (file, Beside::Read(source)),
-        FileJob::Import { file, source, .. } => (file, Beside::Read(source)),
+        FileJob::Update { file, source, .. } => (file, Beside::Text(source)),
+        FileJob::Import { file, source, .. } => (file, Beside::Text(source)),
         FileJob::Text { file, .. } => (file, Beside::Nothing),
         FileJob::Heads { file } => (file, Beside::Nothing),
         FileJob::Log { file, .. } => (file, Beside::Nothing),
@@ -327,8 +337,8 @@ fn subject_of_files<'a>(job: &FileJob<'a>) -> Subject<'a>
         FileJob::Status { file } => (file, Beside::Nothing),
         FileJob::Cursor { file, .. } => (file, Beside::Nothing),
         FileJob::Check { file } => (file, Beside::Nothing),
-        FileJob::Show { log } => (log, Beside::Nothing),
-        FileJob::Simulate { script } => (script, Beside::Nothing),
+        FileJob::Show { log } => (log, Beside::NoJournal),
+        FileJob::Simulate { script } => (script, Beside::NoJournal),
     };
     Subject { file, beside }
 }
