@@ -1,3 +1,4 @@
 pub mod Attending
 pub mod FieldLists
 pub mod HeadLaws
+pub mod Admitting
