@@ -25,7 +25,7 @@ _textpeer() {
     case ${words[1]} in
     new) values=(file) options='--key -h --help' takes='--key' ;;
     edit) values=(file) options='--at --del --text --text-file --time --message --key -h --help' takes='--at --del --text --text-file --time --message --key' ;;
-    update) values=(file file) options='--time --message --key -h --help' takes='--time --message --key' ;;
+    update) values=(file file) options='--time --message --key --since -h --help' takes='--time --message --key --since' ;;
     import) values=(file file) options='--time --message --key -h --help' takes='--time --message --key' ;;
     text) values=(file hash) rest=hash options='--raw -h --help' ;;
     heads) values=(file) options='-h --help' ;;

@@ -11,7 +11,7 @@ function __textpeer_place
     set -l words (commandline -opc)[3..]
     set -l place 1
     while set -q words[1]
-        if contains -- $words[1] --at --del --follow --key --message --most --patience --serve --sessions --text --text-file --time --to --workers
+        if contains -- $words[1] --at --del --follow --key --message --most --patience --serve --sessions --since --text --text-file --time --to --workers
             set -e words[1]
             set -q words[1]; or set place 0
         else if not string match -q -- '-*' $words[1]
@@ -51,6 +51,7 @@ complete -c textpeer -n '__textpeer_does update; and test (__textpeer_place) -eq
 complete -c textpeer -n '__textpeer_does update; and not __fish_contains_opt time' -l time -x -d 'the time of the change [default: 0]'
 complete -c textpeer -n '__textpeer_does update; and not __fish_contains_opt message' -l message -x -d 'the message of the change; empty if left out'
 complete -c textpeer -n '__textpeer_does update; and not __fish_contains_opt key' -l key -x -d 'the key of the random numbers, in 64 hexadecimal digits; from /dev/urandom if left out'
+complete -c textpeer -n '__textpeer_does update; and not __fish_contains_opt since' -l since -x -d 'the heads at which the file was taken out, as the last words: what came since stays; the text now if left out'
 complete -c textpeer -n '__textpeer_does update; and not __fish_contains_opt -s h help' -s h -l help -d 'Print help'
 complete -c textpeer -n __fish_use_subcommand -a import -d 'Brings the text of a file into a new document, or one without text, and prints the hash of each change'
 complete -c textpeer -n '__textpeer_does import; and test (__textpeer_place) -eq 1' -F

@@ -1,5 +1,5 @@
 /* Two shared editors on journals in files: each writes, one session makes them even, and both are opened again; then what was
- * there earlier. Prints what is there. The folder of the files is the first argument. */
+ * there earlier, and a journal that is moved. Prints what is there. The folder of the files is the first argument. */
 #include "textpeer.h"
 
 #include <stdio.h>
@@ -265,6 +265,39 @@ static void print_fork(tp_shared *shared)
     tp_free(copy);
 }
 
+static uint32_t edit_begin(tp_shared *shared, const char *text)
+{
+    size_t len;
+    return tp_shared_edit(shared, 0, 0, text, strlen(text), 0, NULL, 0, &len);
+}
+
+/* A journal that is moved while it is open: edits are refused, and what there was is still read. Once it is back it is opened,
+ * with all that was answered. */
+static void print_moved(const char *path, const char *elsewhere)
+{
+    static const uint8_t EVE[16] = {6}, FAY[16] = {7};
+    tp_shared shared;
+    size_t len;
+    must(tp_shared_open(path, strlen(path), EVE, &shared.at), "open");
+    must(edit_begin(&shared, "Kept. "), "edit");
+    must((uint32_t)rename(path, elsewhere), "rename");
+    uint32_t first = edit_begin(&shared, "Lost? "), second = edit_begin(&shared, "Lost! ");
+    printf("moved %u %s, %u %s\n", (unsigned)first, tp_status_name(first), (unsigned)second, tp_status_name(second));
+    print_text(&shared);
+    must(tp_shared_text(&shared, &len), "text");
+    uint8_t *kept = answer(&shared, len);
+    tp_shared_close(shared);
+    must((uint32_t)rename(elsewhere, path), "rename");
+    must(tp_shared_open(path, strlen(path), FAY, &shared.at), "open again");
+    must(tp_shared_text(&shared, &len), "text");
+    uint8_t *text = answer(&shared, len);
+    printf("back, %s\n", strstr((char *)text, (char *)kept) != NULL ? "with all that was answered" : "without some");
+    must(edit_begin(&shared, ""), "edit");
+    free(kept);
+    free(text);
+    tp_shared_close(shared);
+}
+
 int main(int count, char **arguments)
 {
     const char *folder = count > 1 ? arguments[1] : ".";
@@ -295,6 +328,7 @@ int main(int count, char **arguments)
     print_earlier(&ann);
     print_fork(&ann);
     tp_shared_close(ann);
+    print_moved(first, absent);
     free(first);
     free(second);
     free(absent);

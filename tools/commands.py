@@ -11,9 +11,9 @@ from tree import TOP
 FILE, HASH, OTHER = "file", "hash", "other"
 KINDS = {"FILE": FILE, "OTHER": FILE, "OUT": FILE, "SAVED": FILE, "LOG": FILE, "SCRIPT": FILE, "TEXT": FILE, "HASH": HASH, "ADDR": OTHER,
          "AT": OTHER, "PAGE": OTHER}
-SECTION = re.compile(r"^(Commands|Arguments|Options|Example):\n((?:  .*(?:\n|\Z))+)", re.M)
+SECTION = re.compile(r"^(Commands|Arguments|Options|Anywhere before --|Example):\n((?:  .*(?:\n|\Z))+)", re.M)
 VALUE = re.compile(r"  [<\[](\w+)[>\]](\.\.\.)? +(.+)")
-OPTION = re.compile(r"  (?:(-\w), |    )(--[\w-]+)(?: (<\w+>|\[<\w+>\]))?  +(.+)")
+OPTION = re.compile(r"  (?:(-\w), |    )(--[\w-]+)(?: (<\w+>|\[<\w+>\])(\.\.\.)?)?  +(.+)")
 
 
 @dataclass
@@ -40,11 +40,12 @@ class Value:
 @dataclass
 class Option:
     """An option: its short name if it has one, its name, that of its value if it takes one, in brackets where it may be left
-    out, whether it has to be given, and what it is for."""
+    out, whether several may come after it, whether it has to be given, and what it is for."""
 
     short: str
     name: str
     value: str
+    is_many: bool
     is_required: bool
     about: str
 
@@ -56,7 +57,7 @@ class Option:
     @property
     def shown(self):
         """As a synopsis has it."""
-        words = " ".join(filter(None, [self.name, self.value]))
+        words = " ".join(filter(None, [self.name, self.value, ".." if self.is_many else ""]))
         return words if self.is_required else f"[{words}]"
 
 
@@ -79,8 +80,8 @@ class Command:
 
 @dataclass
 class Program:
-    """The program: its name, its version, what it does, its commands, and the options of the program and of each
-    command that ask for help or the version."""
+    """The program: its name, its version, what it does, its commands, the options of the program and of each command
+    that ask for help or the version, and the options that may be anywhere."""
 
     name: str
     version: str
@@ -88,6 +89,7 @@ class Program:
     commands: list
     options: list
     command_options: list
+    anywhere: list
 
 
 def said_by(*words):
@@ -107,10 +109,10 @@ def lines_of(sections, name, shape):
     return found
 
 
-def options_of(sections, usage):
-    """The options of a help: those of the usage have to be given."""
-    return [Option(short, name, re.sub("[<>]", "", value or ""), f" {name} " in usage, about)
-            for short, name, value, about in lines_of(sections, "Options", OPTION)]
+def options_of(sections, usage, section="Options"):
+    """The options of a section of a help: those of the usage have to be given."""
+    return [Option(short, name, re.sub("[<>]", "", value or ""), many is not None, f" {name} " in usage, about)
+            for short, name, value, many, about in lines_of(sections, section, OPTION)]
 
 
 def read_command(name):
@@ -136,7 +138,8 @@ def read_program():
             sys.exit(f"tools/commands.py: the help says `{about}` of `{name}`, and its own `{command.about}`")
         read.append(command)
     name, version = said_by("--version").split()
-    return Program(name, version, text.partition("\n")[0], read, options_of(sections, ""), asking)
+    return Program(name, version, text.partition("\n")[0], read, options_of(sections, ""), asking,
+                   options_of(sections, "", "Anywhere before --"))
 
 
 def keep(made, words, doc):

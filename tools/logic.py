@@ -4,6 +4,7 @@ import re
 WORD = re.compile(r"[^\s(){}\[\],;]+")
 IMPORT = re.compile(r"use Rattle\.([\w.]+?)(?:\.\{([^}]*)\}| as (\w+))", re.S)
 HEAD = re.compile(r"(?:(?:abbrev|unfoldable|pub|record|data|ruleset) )*(\S+)")
+SIGNATURE = re.compile(r"(abbrev|unfoldable|pub|record|data|ruleset) |\S+ :")
 NO_ITEM = re.compile(r"(pub )?(use|mod) |unfolding |infix|[\s)\]}(]|$")
 
 
@@ -61,7 +62,8 @@ def named_in(text, imports, module=None):
 
 
 def items_of(path, text):
-    """The definitions and lemmas of a file of specs/ or proofs/: the name, its line and its text."""
+    """The definitions and lemmas of a file of specs/ or proofs/: the name, its line and its text. A case of an operator,
+    which begins with an operand, is of the one before it."""
     items, name, module = {}, None, ""
     for number, line in enumerate(text.split("\n"), 1):
         if line.startswith("module "):
@@ -72,7 +74,7 @@ def items_of(path, text):
         elif line:
             module = ""
         if not NO_ITEM.match(line):
-            name = plain(HEAD.match(line).group(1))
+            name = plain(HEAD.match(line).group(1)) if SIGNATURE.match(line) or not name else name
             items.setdefault(name, [number, module + "\n"])
         elif re.match(r"(pub )?(use|mod) ", line):
             name = None

@@ -1,9 +1,12 @@
 """What the tests of the page's program share: commands that are run, requests, and windows over a WebSocket."""
 import base64
+import collections
 import contextlib
+import hmac
 import json
 import os
 import pathlib
+import re
 import socket
 import struct
 import subprocess
@@ -13,6 +16,10 @@ PATIENCE = 30
 UPGRADE = ["Connection: Upgrade", "Upgrade: websocket", "Sec-WebSocket-Version: 13",
            f"Sec-WebSocket-Key: {base64.b64encode(bytes(16)).decode()}"]
 DIFFER = []
+ADDRESS = re.compile(r"http://127\.0\.0\.1:([0-9]+)/#([0-9a-f]{32})\n")
+
+# A page: the port of the program, and the key that its windows have to know.
+Page = collections.namedtuple("Page", "port key")
 
 
 def check(name, got, wanted):
@@ -44,6 +51,13 @@ def frame(content, first=0x81, mask=b"\1\2\3\4"):
     length = bytes([size]) if size < 126 else b"\x7e" + struct.pack(">H", size) if size < 65536 else b"\x7f" + struct.pack(">Q", size)
     length = bytes([length[0] | (0x80 if mask else 0)]) + length[1:]
     return bytes([first]) + length + mask + (bytes(byte ^ mask[i % 4] for i, byte in enumerate(content)) if mask else content)
+
+
+def page_of(line):
+    """The page whose address a program has printed."""
+    found = ADDRESS.fullmatch(line)
+    check("the address that the program prints", found is not None, True)
+    return Page(int(found[1]), bytes.fromhex(found[2]))
 
 
 class Connection:
@@ -96,11 +110,32 @@ class Connection:
         self.socket.close()
 
 
-def window(port, path="/socket"):
-    """A connection that is a window of the page."""
+def code_of(key, side, theirs, mine):
+    """The code of a side, of the program's challenge and that of the window."""
+    return hmac.new(key, side + theirs + mine, "sha256").hexdigest()
+
+
+def claim(key, challenge, side=b"textpeer page"):
+    """What a window says to a challenge that knows the key, and the code that the program has to answer."""
+    theirs, mine = bytes.fromhex(challenge), os.urandom(16)
+    said = {"key": {"challenge": mine.hex(), "code": code_of(key, side, theirs, mine)}}
+    return frame(json.dumps(said).encode()), code_of(key, b"textpeer program", theirs, mine)
+
+
+def asking(port, path="/socket"):
+    """A connection that would be a window of the page, and the challenge with which it is asked for the key."""
     connection = Connection(port)
     connection.send(head(f"GET {path} HTTP/1.1", f"Host: 127.0.0.1:{port}", f"Origin: http://127.0.0.1:{port}", *UPGRADE))
     check("a window", connection.status(), 101)
+    return connection, json.loads(connection.text() or "{}").get("challenge", "")
+
+
+def window(page, path="/socket"):
+    """A connection that is a window of the page."""
+    connection, challenge = asking(page.port, path)
+    said, wanted = claim(page.key, challenge)
+    connection.send(said)
+    check("the program knows the key", json.loads(connection.text() or "null"), {"known": {"code": wanted}})
     return connection
 
 

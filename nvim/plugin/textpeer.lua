@@ -28,6 +28,13 @@ for event, call in pairs({ BufReadCmd = 'read', BufWriteCmd = 'write' }) do
   })
 end
 
+-- No command of Neovim's own writes a journal: an exception here ends the command, which an error of Lua doesn't.
+local GUARD = [[execute luaeval("require('textpeer.journal').guard(_A)", expand('<amatch>'))]]
+vim.api.nvim_create_autocmd({ 'BufWritePre', 'FileWritePre', 'FileAppendPre' }, { group = group, command = GUARD })
+
+-- Before `:saveas` gives the buffer another name it tells of a buffer that has that name already.
+vim.api.nvim_create_autocmd('BufFilePre', { group = group, command = "if expand('<abuf>') != bufnr() | " .. GUARD .. ' | endif' })
+
 -- A journal that is read as a plain file.
 vim.api.nvim_create_autocmd('BufReadPost', {
   group = group,

@@ -305,7 +305,163 @@ local function hint()
   editor:quit()
 end
 
-for _, part in ipairs({ write_elsewhere, save_as, full_disk, quit_at_once, leave_at_once, damaged_journals, no_journals, hint }) do
+-- Tries to write a file by each of its names and each of Neovim's commands, from the current buffer. Each is refused, and says
+-- so; the buffer keeps its name, and the file its bytes.
+local function none_writes(editor, names, says_why)
+  local name, modified = unpack(editor:lua('return { vim.fn.bufname(), vim.bo.modified }'))
+  local bytes = got(names[1])
+  local commands = { 'write!', 'write! ++ff=dos', '1write!', 'write >>', 'write! >>', '1write >>', 'saveas!', 'wq!', '1wq!' }
+  -- These write a buffer that is modified.
+  vim.list_extend(commands, modified and { 'update!', 'xit!', 'exit!' } or {})
+  for _, other in ipairs(names) do
+    for _, command in ipairs(commands) do
+      said(editor, command .. ' ' .. vim.fn.fnameescape(other), says_why)
+      has(names[1], bytes)
+    end
+  end
+  local now = editor:lua('return vim.fn.bufname()')
+  check(now == name, 'the name of a buffer that was not written: ' .. now .. ', not ' .. name)
+end
+
+-- The journal of an open buffer isn't written by Neovim's own commands, by any of its names, and from any buffer.
+local function journals_in_use()
+  local editor = editor_of()
+  put('note.txt', 'note\n')
+  vim.fn.mkdir(folder .. '/links')
+  vim.loop.fs_link(folder .. '/a.journal', folder .. '/hard')
+  vim.loop.fs_symlink('../a.journal', folder .. '/links/soft')
+  vim.loop.fs_symlink('links', folder .. '/folder')
+  local names = { 'a.journal', './links/../a.journal', folder .. '/a.journal', 'hard', 'links/soft', 'folder/soft' }
+  local why = 'a.journal is the journal of an open buffer: write its text to another file'
+  none_writes(editor, { 'a.journal' }, why)
+  none_writes(editor, names, 'is the journal of an open buffer')
+  editor:command('edit note.txt')
+  type_at_once(editor, 'x')
+  none_writes(editor, names, 'is the journal of an open buffer')
+  -- Without a way to read it, it is known by its place alone.
+  editor:lua("require('textpeer.journal').is_at = function() return false end")
+  none_writes(editor, names, 'is the journal of an open buffer')
+  editor:command('buffer textpeer')
+  is(editor, 'a journal that nothing wrote', false, shared_name(), 'alone')
+  type_at_once(editor, 'x')
+  said(editor, 'TextpeerStatus', 'compared  buffer and engine have one text')
+  -- Other files are written as before.
+  said(editor, 'write! other.txt', 'written')
+  has('other.txt', TEXT:sub(2) .. '\n')
+  editor:command('buffer note.txt')
+  said(editor, 'write!', 'written')
+  has('note.txt', 'ote\n')
+  told(editor, 'a journal that nothing wrote', '')
+  editor:quit()
+  check(journal_text() == TEXT:sub(2), 'the journal that nothing wrote: ' .. journal_text())
+end
+
+-- A journal that no buffer has open isn't written as a file either, nor one that was opened as a file, which is read-only.
+local function journals_as_files()
+  local editor = editor_beside()
+  local bytes = got('a.journal')
+  put("it's one", bytes)
+  editor:command('edit a.journal')
+  told(editor, 'a journal as a file', 'this is a journal; :TextpeerOpen % shows its text')
+  check(editor:lua('return vim.bo.readonly'), 'a journal as a file is read-only')
+  said(editor, 'write', 'E45:')
+  local why = 'a.journal is a journal: write to another file; :TextpeerOpen shows its text'
+  said(editor, 'write!', why)
+  editor:command('setlocal noreadonly')
+  type_at_once(editor, 'x')
+  for _, command in ipairs({ 'write', 'write!', 'update', 'wall', 'xit', 'wq!', '1write!', 'write >>' }) do
+    said(editor, command, why)
+    has('a.journal', bytes)
+  end
+  editor:command('file other')
+  none_writes(editor, { 'a.journal' }, why)
+  none_writes(editor, { "it's one" }, "it's one is a journal: write to another file")
+  editor:command('edit! a.journal')
+  check(editor:lua('return vim.bo.readonly'), 'a journal that is read again is read-only')
+  editor:command('edit note.txt')
+  editor:command('bwipeout a.journal')
+  editor:command('put =range(3)')
+  none_writes(editor, { 'a.journal' }, why)
+  none_writes(editor, { "it's one" }, "it's one is a journal: write to another file")
+  -- What the person means all the same.
+  said(editor, "noautocmd write! it's\\ one", 'written')
+  has("it's one", '\n0\n1\n2\n')
+  said(editor, "write! it's\\ one", 'written')
+  editor:command("edit! it's\\ one")
+  check(not editor:lua('return vim.bo.readonly'), 'a file that was a journal')
+  editor:quit()
+  has('a.journal', bytes)
+end
+
+-- A journal that is moved, removed or replaced: the message says so, and what was typed stays in view. Once it is back it is
+-- opened again with all of it.
+local function moved_journals()
+  local editor = editor_of()
+  local path, moved = folder .. '/a.journal', folder .. '/moved.journal'
+  local function fails(what, act)
+    act()
+    wait(what, function()
+      return editor:lua("return require('textpeer').statusline()") == 'stopped'
+    end)
+    local text = editor:told()
+    check(text == 'textpeer: ' .. path .. " is no longer shared (JournalFailed, the journal can't be written any more, or was moved, removed, replaced or"
+      .. ' cut). What you type stays in view and is kept nowhere: save it by :saveas FILE, or put the journal back or make room, and'
+      .. ' :TextpeerOpen it again, which takes what you typed', what .. ': told is ' .. vim.inspect(text))
+    said(editor, 'TextpeerStatus', 'stopped   JournalFailed, the journal')
+    is(editor, what, true, shared_name(), 'stopped')
+  end
+  local function is_back(what, text)
+    editor:command('TextpeerOpen a.journal')
+    told(editor, what, '')
+    is(editor, what, false, shared_name(), 'alone')
+    check(editor:engine() == text and editor:text() == text, what .. ': ' .. vim.inspect(editor:text()))
+  end
+  local function typing(keys)
+    return function()
+      type_at_once(editor, keys)
+    end
+  end
+  type_at_once(editor, 'Ax<Esc>')
+  editor:engine()
+  -- Nothing is typed: the first that asks is told.
+  for _, command in ipairs({ 'write', 'TextpeerStatus' }) do
+    os.rename(path, moved)
+    fails(':' .. command .. ' of a journal that was moved', function()
+      says(editor, command)
+    end)
+    os.rename(moved, path)
+    is_back(':' .. command .. ' of a journal that is back', 'onex\ntwo\nthree')
+  end
+  os.rename(path, moved)
+  fails('a journal that was moved', typing('Ay<Esc>'))
+  type_at_once(editor, 'Az<Esc>')
+  check(editor:text() == 'onexyz\ntwo\nthree', 'what was typed into a journal that was moved: ' .. editor:text())
+  says(editor, 'TextpeerOpen a.journal')
+  told(editor, 'a journal that is away', 'is not there')
+  check(editor:text() == 'onexyz\ntwo\nthree', 'what was typed while the journal is away: ' .. editor:text())
+  os.rename(moved, path)
+  is_back('a journal that is back', 'onexyz\ntwo\nthree')
+  -- Another file in its place stays as it is.
+  put('other', 'other')
+  vim.loop.fs_link(path, moved)
+  os.rename(folder .. '/other', path)
+  fails('a journal that was replaced', typing('A!<Esc>'))
+  has('a.journal', 'other')
+  os.rename(moved, path)
+  is_back('a journal that is back in its place', 'onexyz!\ntwo\nthree')
+  os.rename(path, moved)
+  os.remove(moved)
+  fails('a journal that was removed', typing('A?<Esc>'))
+  has('a.journal', nil)
+  said(editor, 'saveas saved.txt', 'written')
+  has('saved.txt', 'onexyz!?\ntwo\nthree\n')
+  editor:quit()
+end
+
+for _, part in ipairs({
+  write_elsewhere, save_as, full_disk, quit_at_once, leave_at_once, damaged_journals, no_journals, hint, journals_in_use, journals_as_files,
+  moved_journals,
+}) do
   local ok, problem = pcall(part)
   check(ok, tostring(problem))
 end

@@ -10,6 +10,7 @@ import itertools
 import os
 import pathlib
 import resource
+import shutil
 import socket
 import subprocess
 import tempfile
@@ -172,6 +173,31 @@ class Files(Folder):
             self.assertEqual(again.text(), "abc")
             again.edit(3, 0, "def")
         self.assertEqual(self.program("text", "a"), "abcdef\n")
+
+    def test_a_journal_that_is_not_there_any_more(self):
+        for name, harm in (
+            ("moved", lambda path: path.rename(path.with_name("elsewhere"))),
+            ("removed", lambda path: path.unlink()),
+            ("replaced", lambda path: os.replace(shutil.copyfile(path, path.with_name("older")), path)),
+            ("cut", lambda path: os.truncate(path, path.stat().st_size - 20)),
+        ):
+            with self.subTest(name):
+                notes = self.journal(name)
+                made = notes.edit(0, 0, "abc")
+                harm(self.folder / name)
+                with self.assertRaises(textpeer.JournalFailed) as caught:
+                    notes.edit(3, 0, "def")
+                says = "the journal can't be written or was moved, replaced or cut: close it, put it back or make room, open it anew"
+                self.assertEqual(str(caught.exception), f"JournalFailed: {says}")
+                with self.assertRaises(textpeer.Stopped):
+                    notes.edit(3, 0, "def")
+                self.assertEqual((notes.text(), notes.heads()), ("abc", [made]))
+                notes.close()
+        (self.folder / "elsewhere").rename(self.folder / "moved")
+        # What was refused may be in it.
+        with SharedEditor.open(self.folder / "moved") as notes:
+            self.assertEqual(notes.text_at([notes.change(0).hash]), "abc")
+            notes.edit(0, 0, "x")
 
     def test_what_is_collected_frees_its_file(self):
         notes = SharedEditor.create(self.folder / "a")

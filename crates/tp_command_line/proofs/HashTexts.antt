@@ -55,16 +55,25 @@ any_right P xs ys any =
 
 -- one of the hashes of an argument is one of all
 among_all : (id : Text) (rows : List Row) → is_of_hashes id ≡ true → Any IsNoHash (given_hashes id rows) → Any IsNoHash (all_hashes rows)
-among_all id rows of any = go (bytes_eq (codes "HASH") id) (bytes_eq (codes "to") id) refl refl of
+among_all id rows of any = go (bytes_eq (codes "HASH") id) (bytes_eq (codes "to") id) (bytes_eq (codes "since") id) refl refl refl of
   where
-    go : (b d : Bool) → bytes_eq (codes "HASH") id ≡ b → bytes_eq (codes "to") id ≡ d → (b || d) ≡ true → Any IsNoHash (all_hashes rows)
-    go true d first second either =
-        any_left IsNoHash (given_hashes (codes "HASH") rows) (given_hashes (codes "to") rows)
-        (subst (λ (x : Text). Any IsNoHash (given_hashes x rows)) (sym ((bytes_eq-Decides (codes "HASH") id).0 first)) any)
-    go false true first second either =
-        any_right IsNoHash (given_hashes (codes "HASH") rows) (given_hashes (codes "to") rows)
-        (subst (λ (x : Text). Any IsNoHash (given_hashes x rows)) (sym ((bytes_eq-Decides (codes "to") id).0 second)) any)
-    go false false first second either = absurd (cc)
+    heads : List Text
+    heads = given_hashes (codes "HASH") rows
+
+    later : List Text
+    later = given_hashes (codes "to") rows
+
+    earlier : List Text
+    earlier = given_hashes (codes "since") rows
+
+    named : (name : Text) → bytes_eq name id ≡ true → Any IsNoHash (given_hashes name rows)
+    named name same = subst (λ (x : Text). Any IsNoHash (given_hashes x rows)) (sym ((bytes_eq-Decides name id).0 same)) any
+
+    go : (b d s : Bool) → bytes_eq (codes "HASH") id ≡ b → bytes_eq (codes "to") id ≡ d → bytes_eq (codes "since") id ≡ s → (b || (d || s)) ≡ true → Any IsNoHash (all_hashes rows)
+    go true d s first second third either = any_left IsNoHash heads (later ++ earlier) (named (codes "HASH") first)
+    go false true s first second third either = any_right IsNoHash heads (later ++ earlier) (any_left IsNoHash later earlier (named (codes "to") second))
+    go false false true first second third either = any_right IsNoHash heads (later ++ earlier) (any_right IsNoHash later earlier (named (codes "since") third))
+    go false false false first second third either = absurd (cc)
 
 -- why the hashes that an argument was given weren't read
 pub unread : (id : Text) (ts : List (Bor Text)) (rows : List Row) (e : ValueError) → is_of_hashes id ≡ true → texts_of ts ≡ given_hashes id rows

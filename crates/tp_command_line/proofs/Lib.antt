@@ -7,3 +7,4 @@ pub mod Uses
 pub mod Found
 pub mod ShowWords
 pub mod Subcommands
+pub mod Places

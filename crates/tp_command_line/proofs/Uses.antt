@@ -16,7 +16,7 @@ use Rattle.clap.specs.declared.builder.value_parser.ValueParser.{ValueParser}
 use Rattle.clap.specs.declared.builder.value_parser.ValueParser.TheVariants as parser
 use Rattle.clap.specs.declared.builder.value_parser.ValueParser.TheVariants.{String}
 use Rattle.tp_command_line.specs.Commands.{textpeer_app}
-use Rattle.tp_command_line.specs.Rules.{few, file_rule, flag_rule, follow_rule, key_rule, mandatory, message_rule, most_rule, numbers, numeric, option_rule, options_rule, page_rule, patience_rule, pausing, required_rule, server_rule, sessions_rule, several, time_rule, waiting, workers_rule}
+use Rattle.tp_command_line.specs.Rules.{few, file_rule, flag_rule, follow_rule, key_rule, list_rule, mandatory, message_rule, most_rule, numbers, numeric, option_rule, options_rule, page_rule, patience_rule, pausing, required_rule, server_rule, sessions_rule, several, time_rule, waiting, workers_rule}
 use Rattle.tp_command_line.specs.Uses.{IsUse, always_has, has_default, is_required, shape_named}
 use Rattle.tp_command_line.specs.Values.{parser_named}
 use Rattle.tp_command_line.proofs.Rows.{AllFilled, AllTaken, HasFirst, or_else_none, values_taken, with_values_filled, without_filled}
@@ -193,6 +193,9 @@ raw_sound = record { fills = flag_fills (placed 2 (flag_rule (codes "raw"))) ref
 heads_sound : (i : ℕ) (required : Bool) → IsSound (placed i (record (several (codes "HASH")) { required = required }))
 heads_sound i required = record { fills = many_fills (placed i (record (several (codes "HASH")) { required = required })) refl; defaults = refl; reading = refl }
 
+since_sound : IsSound (placed 2 (list_rule (codes "since")))
+since_sound = record { fills = many_fills (placed 2 (list_rule (codes "since"))) refl; defaults = refl; reading = refl }
+
 help_sound : IsSound (placed 2 help_rule)
 help_sound = record { fills = λ again values rows e h. h; defaults = refl; reading = refl }
 
@@ -243,6 +246,7 @@ all_sound = assumption (
   raw_sound,
   most_sound,
   to_sound,
+  since_sound,
   pretty_sound,
   heads_sound 2 false,
   heads_sound 3 true,

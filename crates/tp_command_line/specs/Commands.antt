@@ -6,13 +6,13 @@ use Rattle.clap.specs.Words.{App, Row, Rule, Shape, Text, app_of, first_of}
 use Rattle.clap.specs.declared.builder.command.Command.{Command}
 use Rattle.clap.specs.declared.builder.command.Command.TheViews.{out-Command}
 use Rattle.tp_command_line.specs.declared.job.FileJob.TheVariants.{New, Edit, Update, Import, Text as ReadText, Heads, Log, Graph, Diff, Status, Cursor, Check, Merge, Save, Load, Recover, Show, Simulate}
-use Rattle.tp_command_line.specs.declared.job.Beside.TheVariants.{Made, Nothing, Page, Read, There}
+use Rattle.tp_command_line.specs.declared.job.Beside.TheVariants.{Here, Loaded, Made, NoJournal, Nothing, Page, Read, Streams, Text as ReadBeside, There}
 use Rattle.tp_command_line.specs.declared.job.Inserted.{Inserted}
 use Rattle.tp_command_line.specs.declared.job.Inserted.TheVariants.{Given, InFile}
 use Rattle.tp_command_line.specs.declared.job.Job.{Job}
 use Rattle.tp_command_line.specs.declared.job.Subject.{Subject}
 use Rattle.tp_command_line.specs.declared.job.Job.TheVariants.{Files, Follow, Serve, Session, Sync, Web}
-use Rattle.tp_command_line.specs.Rules.{file_rule, flag_rule, follow_rule, key_rule, mandatory, message_rule, most_rule, numeric, option_rule, options_rule, page_rule, patience_rule, required_rule, server_rule, sessions_rule, several, time_rule, workers_rule}
+use Rattle.tp_command_line.specs.Rules.{file_rule, flag_rule, follow_rule, key_rule, list_rule, mandatory, message_rule, most_rule, numeric, option_rule, options_rule, page_rule, patience_rule, required_rule, server_rule, sessions_rule, several, time_rule, workers_rule}
 use Rattle.tp_command_line.specs.Values.{HasAddress, HasFlag, HasHashes, HasHeads, HasHosting, HasKey, HasNumber, MayHaveNumber}
 
 -- ---- shapes
@@ -42,9 +42,9 @@ abbrev pub whole_text_shape : Text → Shape
 whole_text_shape name = with_rules name
     (file_rule ∷ required_rule (codes "TEXT") ∷ time_rule ∷ message_rule ∷ key_rule ∷ [])
 
--- `update` with these
+-- `update` with these, and `[--since HASH ..]`
 abbrev pub update_shape : Shape
-update_shape = whole_text_shape (codes "update")
+update_shape = with_rules (codes "update") ((whole_text_shape (codes "update")).rules ++ list_rule (codes "since") ∷ [])
 
 -- `import` with these
 abbrev pub import_shape : Shape
@@ -176,8 +176,8 @@ IsJobOf name rows (Files (Edit file at del text time message key)) = (name ≡ c
     × HasText (codes "FILE") rows file × HasNumber (codes "at") rows at
     × HasNumber (codes "del") rows del × HasInserted rows text
     × HasNumber (codes "time") rows time × HasText (codes "message") rows message × HasKey rows key
-IsJobOf name rows (Files (Update file source time message key)) = (name ≡ codes "update")
-    × HasText (codes "FILE") rows file × HasText (codes "TEXT") rows source
+IsJobOf name rows (Files (Update file source since time message key)) = (name ≡ codes "update")
+    × HasText (codes "FILE") rows file × HasText (codes "TEXT") rows source × HasHashes (codes "since") rows since.items
     × HasNumber (codes "time") rows time × HasText (codes "message") rows message × HasKey rows key
 IsJobOf name rows (Files (Import file source time message key)) = (name ≡ codes "import")
     × HasText (codes "FILE") rows file × HasText (codes "TEXT") rows source
@@ -234,13 +234,13 @@ pub record AskToShow (path : Text) (words : List Text) : Type 0 where
 abbrev pub subject_of : Job → Subject
 subject_of (Files (Merge file other key)) = record { file = file; beside = Read other }
 subject_of (Files (Save file out)) = record { file = file; beside = Made out }
-subject_of (Files (Load saved file)) = record { file = saved; beside = Made file }
+subject_of (Files (Load saved file)) = record { file = saved; beside = Loaded file }
 subject_of (Files (Recover file out)) = record { file = file; beside = Made out }
 subject_of (Files (New file key)) = record { file = file; beside = Made file }
 subject_of (Files (Edit file at del (Given text) time message key)) = record { file = file; beside = Nothing }
-subject_of (Files (Edit file at del (InFile source) time message key)) = record { file = file; beside = Read source }
-subject_of (Files (Update file source time message key)) = record { file = file; beside = Read source }
-subject_of (Files (Import file source time message key)) = record { file = file; beside = Read source }
+subject_of (Files (Edit file at del (InFile source) time message key)) = record { file = file; beside = ReadBeside source }
+subject_of (Files (Update file source since time message key)) = record { file = file; beside = ReadBeside source }
+subject_of (Files (Import file source time message key)) = record { file = file; beside = ReadBeside source }
 subject_of (Files (ReadText file is_raw heads)) = record { file = file; beside = Nothing }
 subject_of (Files (Heads file)) = record { file = file; beside = Nothing }
 subject_of (Files (Log file pretty most)) = record { file = file; beside = Nothing }
@@ -249,10 +249,10 @@ subject_of (Files (Diff file from to)) = record { file = file; beside = Nothing 
 subject_of (Files (Status file)) = record { file = file; beside = Nothing }
 subject_of (Files (Cursor file at heads)) = record { file = file; beside = Nothing }
 subject_of (Files (Check file)) = record { file = file; beside = Nothing }
-subject_of (Files (Show log)) = record { file = log; beside = Nothing }
-subject_of (Files (Simulate script)) = record { file = script; beside = Nothing }
-subject_of (Serve file addr sessions workers patience is_verbose key) = record { file = file; beside = There addr }
-subject_of (Session file is_client key) = record { file = file; beside = Nothing }
+subject_of (Files (Show log)) = record { file = log; beside = NoJournal }
+subject_of (Files (Simulate script)) = record { file = script; beside = NoJournal }
+subject_of (Serve file addr sessions workers patience is_verbose key) = record { file = file; beside = Here addr }
+subject_of (Session file is_client key) = record { file = file; beside = Streams }
 subject_of (Sync file addr patience key) = record { file = file; beside = There addr }
 subject_of (Follow file addr every sessions patience key) = record { file = file; beside = There addr }
 subject_of (Web file hosting key) = record { file = file; beside = Page hosting }

@@ -1,3 +1,4 @@
+pub mod Asking
 pub mod Rules
 pub mod Values
 pub mod Commands

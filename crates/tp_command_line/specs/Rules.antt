@@ -41,6 +41,13 @@ several id = record (new_rule id) {
 abbrev pub options_rule : Text → Rule
 options_rule id = record (option_rule id) { action = Some Append }
 
+-- `--id VALUE ..`, with one value or more
+abbrev pub list_rule : Text → Rule
+list_rule id = record (option_rule id) {
+  action = Some Append;
+  range = Some (record { start_inclusive = 1; end_inclusive = usize_max });
+}
+
 abbrev pub file_rule : Rule
 file_rule = required_rule (codes "FILE")
 

@@ -118,7 +118,7 @@ given_hashes id rows = unwrap_or (all_of id rows) []
 
 -- all hashes that were given
 abbrev pub all_hashes : List Row → List Text
-all_hashes rows = given_hashes (codes "HASH") rows ++ given_hashes (codes "to") rows
+all_hashes rows = given_hashes (codes "HASH") rows ++ (given_hashes (codes "to") rows ++ given_hashes (codes "since") rows)
 
 abbrev pub HasHashes : Text → List Row → List Hash → Type 0
 HasHashes id rows hashes = AreHexOf (given_hashes id rows) hashes
@@ -128,7 +128,7 @@ HasHeads rows heads = HasHashes (codes "HASH") rows heads
 
 -- the argument's values are hashes
 abbrev pub is_of_hashes : Text → Bool
-is_of_hashes id = bytes_eq (codes "HASH") id || bytes_eq (codes "to") id
+is_of_hashes id = bytes_eq (codes "HASH") id || (bytes_eq (codes "to") id || bytes_eq (codes "since") id)
 
 -- the key is what `--key` was given, if it was
 abbrev pub HasKey : List Row → Option (List ℕ) → Type 0

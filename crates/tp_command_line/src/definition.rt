@@ -2,12 +2,17 @@
 
 ghost use Rattle.std.specs.Prelude.{◌≡◌, ◌∷◌, IfOk, [], false, codes};
 ghost use Rattle.clap.specs.Words.{App, Shape, app_of, rule_of, with_subcommand};
-ghost use Rattle.tp_command_line.specs.Commands.{IsLeaf, bare_app, cursor_shape, diff_shape, edit_at_shape, edit_shape, files_app, journals_app, load_shape, log_shape, merge_shape, new_shape, serve_shape, session_shape, sync_shape, text_shape, textpeer_app, web_shape, whole_text_shape, with_rules};
-ghost use Rattle.tp_command_line.specs.Rules.{file_rule, flag_rule, follow_rule, mandatory, message_rule, most_rule, numeric, option_rule, options_rule, page_rule, patience_rule, required_rule, server_rule, sessions_rule, several, time_rule, workers_rule};
+ghost use Rattle.tp_command_line.specs.Commands.{IsLeaf, bare_app, cursor_shape, diff_shape, edit_at_shape, edit_shape, files_app, journals_app, load_shape, log_shape, merge_shape, new_shape, serve_shape, session_shape, sync_shape, text_shape, textpeer_app, update_shape, web_shape, whole_text_shape, with_rules};
+ghost use Rattle.tp_command_line.specs.Rules.{file_rule, flag_rule, follow_rule, list_rule, mandatory, message_rule, most_rule, numeric, option_rule, options_rule, page_rule, patience_rule, required_rule, server_rule, sessions_rule, several, time_rule, workers_rule};
 
 use clap::builder::ValueParser;
 use clap::{Arg, ArgAction, Command, value_parser};
 use std::alloc::{AllocError, Global};
+
+// What is said below the commands. The words that it names are read before the parser has the others.
+const ANYWHERE: &str =
+    "Anywhere before --:\n      --explain  says below a refusal which file it is about and what to do, as always on a terminal\n\n\
+`textpeer help COMMAND` is `textpeer COMMAND --help`";
 
 /// The definition of the program's command line.
 pub(crate) fn textpeer_command<'a>(alloc: Global) -> Result<Command<'a>, AllocError>
@@ -79,15 +84,7 @@ fn journal_commands<'a>(alloc: Global) -> Result<Command<'a>, AllocError>
 {
     let begun = with(Ok(program(alloc)), new_command(alloc));
     let edited = with(begun, edit_command(alloc));
-    let updated = with(
-        edited,
-        whole_text_command(
-            alloc,
-            "update",
-            "Makes the text that of a file, by the differences of both, and prints the hash of each change, or `nothing` where they are equal",
-            "Example:\n  textpeer update notes.journal notes.txt",
-        ),
-    );
+    let updated = with(edited, update_command(alloc));
     let imported = with(
         updated,
         whole_text_command(
@@ -159,6 +156,7 @@ fn program<'a>(alloc: Global) -> Command<'a>
     Command::new(alloc, "textpeer")
         .version("0.1.0")
         .about("Keeps a text in step between peers")
+        .after_help(ANYWHERE)
         .disable_help_subcommand(true)
         .subcommand_required(true)
 }
@@ -485,6 +483,34 @@ fn whole_text_command<'a>(
     .arg(time(alloc))?
     .arg(message(alloc))?
     .arg(key(alloc))
+}
+
+// The heads of the text that a file was taken from.
+fn since<'a>(alloc: Global) -> Arg<'a>
+    ensures rule { rule_of result ≡ list_rule (codes "since") }
+    ensures local { result.global ≡ false }
+{
+    option(
+        alloc,
+        "since",
+        "HASH",
+        "the heads at which the file was taken out, as the last words: what came since stays; the text now if left out",
+    )
+    .num_args(1..)
+    .action(ArgAction::Append)
+}
+
+fn update_command<'a>(alloc: Global) -> Result<Command<'a>, AllocError>
+    ensures { IfOk result (IsLeaf update_shape) }
+{
+    whole_text_command(
+        alloc,
+        "update",
+        "Makes the text that of a file, by the differences of both, and prints the hash of each change, or `nothing` where they are equal",
+        "Example:\n  textpeer heads notes.journal >notes.heads\n  textpeer text notes.journal --raw >notes.txt\n  \
+         textpeer update notes.journal notes.txt --since $(cat notes.heads)",
+    )?
+    .arg(since(alloc))
 }
 
 fn text_command<'a>(alloc: Global) -> Result<Command<'a>, AllocError>

@@ -61,6 +61,8 @@ pub enum FileJob<'a> {
         file: &'a str,
         /// The path of the file; `-` is the standard input.
         source: &'a str,
+        /// The heads of the text that the file was taken from; where there are none it is the text now.
+        since: Vec<Hash>,
         /// The time of the changes; 0 where none is given.
         time: u64,
         /// The message of the changes; empty where none is given.
@@ -263,10 +265,20 @@ pub struct Hosting<'a> {
 pub enum Beside<'a> {
     /// There is none.
     Nothing,
-    /// It is read.
+    /// There is none, and the first file is no journal.
+    NoJournal,
+    /// It is a journal that is read.
     Read(&'a str),
+    /// It is a text that is read; `-` is the standard input.
+    Text(&'a str),
     /// It is made.
     Made(&'a str),
+    /// It is a journal that is made of the first one, a saved file.
+    Loaded(&'a str),
+    /// It is the other side of a session over the standard input and output.
+    Streams,
+    /// It is the address that is listened on.
+    Here(Address<'a>),
     /// It is a server, at the address.
     There(Address<'a>),
     /// It is a page, at its address.
@@ -289,8 +301,8 @@ impl<'a> Job<'a> {
     {
         let (file, beside) = match self {
             Job::Files(job) => return subject_of_files(job),
-            Job::Serve { file, addr, .. } => (file, Beside::There(*addr)),
-            Job::Session { file, .. } => (file, Beside::Nothing),
+            Job::Serve { file, addr, .. } => (file, Beside::Here(*addr)),
+            Job::Session { file, .. } => (file, Beside::Streams),
             Job::Sync { file, addr, .. } => (file, Beside::There(*addr)),
             Job::Follow { file, addr, .. } => (file, Beside::There(*addr)),
             Job::Web { file, hosting, .. } => (file, Beside::Page(*hosting)),
@@ -307,16 +319,16 @@ fn subject_of_files<'a>(job: &FileJob<'a>) -> Subject<'a>
         FileJob::New { file, .. } => (file, Beside::Made(file)),
         FileJob::Merge { file, other, .. } => (file, Beside::Read(other)),
         FileJob::Save { file, out } => (file, Beside::Made(out)),
-        FileJob::Load { saved, file } => (saved, Beside::Made(file)),
+        FileJob::Load { saved, file } => (saved, Beside::Loaded(file)),
         FileJob::Recover { file, out } => (file, Beside::Made(out)),
         FileJob::Edit {
             file,
             text: Inserted::InFile(source),
             ..
-        } => (file, Beside::Read(source)),
+        } => (file, Beside::Text(source)),
         FileJob::Edit { file, .. } => (file, Beside::Nothing),
-        FileJob::Update { file, source, .. } => (file, Beside::Read(source)),
-        FileJob::Import { file, source, .. } => (file, Beside::Read(source)),
+        FileJob::Update { file, source, .. } => (file, Beside::Text(source)),
+        FileJob::Import { file, source, .. } => (file, Beside::Text(source)),
         FileJob::Text { file, .. } => (file, Beside::Nothing),
         FileJob::Heads { file } => (file, Beside::Nothing),
         FileJob::Log { file, .. } => (file, Beside::Nothing),
@@ -325,8 +337,8 @@ fn subject_of_files<'a>(job: &FileJob<'a>) -> Subject<'a>
         FileJob::Status { file } => (file, Beside::Nothing),
         FileJob::Cursor { file, .. } => (file, Beside::Nothing),
         FileJob::Check { file } => (file, Beside::Nothing),
-        FileJob::Show { log } => (log, Beside::Nothing),
-        FileJob::Simulate { script } => (script, Beside::Nothing),
+        FileJob::Show { log } => (log, Beside::NoJournal),
+        FileJob::Simulate { script } => (script, Beside::NoJournal),
     };
     Subject { file, beside }
 }
@@ -349,7 +361,7 @@ fn edit_of<'a>(found: &ArgMatches<'a>) -> Result<Job<'a>, ValueError>
 }
 
 // The text that `update` asks for.
-fn update_of<'a>(found: &ArgMatches<'a>) -> Result<Job<'a>, ValueError>
+fn update_of<'a>(alloc: Global, found: &ArgMatches<'a>) -> Result<Job<'a>, ValueError>
     requires { IsUse (codes "update") (rows_of (found_of found.now)) }
     ensures ok { IfOk result (IsJobOf (codes "update") (rows_of (found_of found.now))) }
     ensures err { IfErr result (RefusesValue (rows_of (found_of found.now))) }
@@ -357,6 +369,7 @@ fn update_of<'a>(found: &ArgMatches<'a>) -> Result<Job<'a>, ValueError>
     Ok(Job::Files(FileJob::Update {
         file: text_of(found, "update", "FILE"),
         source: text_of(found, "update", "TEXT"),
+        since: hashes_of(alloc, found, "since")?,
         time: number_of(found, "update", "time"),
         message: text_of(found, "update", "message"),
         key: key_of(found)?,
@@ -484,7 +497,7 @@ pub(crate) fn job_of<'a>(
             key: key_of(found)?,
         })),
         "edit" => edit_of(found),
-        "update" => update_of(found),
+        "update" => update_of(alloc, found),
         "import" => import_of(found),
         "text" => Ok(Job::Files(FileJob::Text {
             file: text_of(found, name, "FILE"),

@@ -2,6 +2,7 @@
 #![tactic(auto)]
 
 mod address;
+mod asking;
 mod definition;
 mod error;
 mod job;
@@ -10,6 +11,7 @@ mod texts;
 mod values;
 
 pub use address::Address;
+pub use asking::{Asked, words_asked};
 pub use error::{LineError, ValueError};
 pub use job::{Beside, FileJob, Hosting, Inserted, Job, Subject};
 pub use parsing::line;

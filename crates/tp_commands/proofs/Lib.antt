@@ -4,6 +4,9 @@ pub mod Journals
 pub mod GraphLines
 pub mod LabelLaws
 pub mod LogLines
+pub mod PartLaws
 pub mod PrettyLaws
+pub mod SinceLaws
 pub mod StatusLaws
+pub mod TextCuts
 pub mod Updates

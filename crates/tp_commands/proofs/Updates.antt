@@ -47,7 +47,7 @@ none_of_none actor time message C (c ∷ cs) h = absurd (no_edit h.0 h.1 h.2 h.4
     no_edit [] later is e = omega (arith, e.some)
     no_edit (s ∷ next) later is e = absurd (cc)
 
-total_count-append : (xs ys : List Splice) → total_count (xs ++ ys) ≡ total_count xs + total_count ys
+pub total_count-append : (xs ys : List Splice) → total_count (xs ++ ys) ≡ total_count xs + total_count ys
 total_count-append [] ys = omega arith
 total_count-append (x ∷ xs) ys = let rest = total_count-append xs ys in omega (arith, rest)
 
@@ -64,7 +64,7 @@ one_of_few actor time message C ss (c ∷ cs) h few = last h.0 h.1 h.2 h.3 h.5
         let all = ap total_count is ∙ total_count-append next (s ∷ later) in
         absurd (omega (arith, all, full, few))
 
-hashes-push : (cs : List ChangeParts) (c : ChangeParts) → hashes_of (cs ++ c ∷ []) ≡ hashes_of cs ++ hash_of c ∷ []
+pub hashes-push : (cs : List ChangeParts) (c : ChangeParts) → hashes_of (cs ++ c ∷ []) ≡ hashes_of cs ++ hash_of c ∷ []
 hashes-push [] c = refl
 hashes-push (x ∷ cs) c = ap (λ hs. hash_of x ∷ hs) (hashes-push cs c)
 
@@ -191,6 +191,7 @@ updates_of k actor p after text time message hashes bytes r made has =
       was_text = m.was_text;
       differences = m.differences;
       leads = m.leads;
+      cut = m.cut;
       made = m.makes.made;
       edits = m.makes.edits;
       none = none_made q after text time message hashes m;

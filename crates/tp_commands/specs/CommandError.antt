@@ -4,6 +4,10 @@ use Rattle.tp_document.specs.declared.error.DocError.{DocError}
 use Rattle.tp_document.specs.declared.error.DocError.TheVariants as doc
 use Rattle.tp_journal.specs.declared.opening.OpenError.{OpenError}
 use Rattle.tp_journal.specs.declared.opening.OpenError.TheVariants as open_error
+use Rattle.tp_history.specs.declared.error.GraphError.{GraphError}
+use Rattle.tp_history.specs.declared.error.GraphError.TheVariants as graph
+use Rattle.tp_peer.specs.declared.editing_at.EditAtError.{EditAtError}
+use Rattle.tp_peer.specs.declared.editing_at.EditAtError.TheVariants as edit_at
 use Rattle.tp_peer.specs.declared.error.PeerError.{PeerError}
 use Rattle.tp_peer.specs.declared.error.PeerError.TheVariants as peer
 use Rattle.tp_journal.specs.declared.error.JournalError.{JournalError}
@@ -31,6 +35,17 @@ IsOfSystem e = (e ≡ Io) ⊎ (e ≡ OutOfMemory)
 abbrev pub refusal_of_peer : PeerError → CommandError
 refusal_of_peer peer.OutOfMemory = OutOfMemory
 refusal_of_peer e = Peer e
+
+-- a change doesn't fit: there is no room, its hash is another's, or its actor made another one
+abbrev pub refusal_of_unfit : GraphError → CommandError
+refusal_of_unfit graph.Full = Doc doc.Full
+refusal_of_unfit graph.Known = Doc doc.HashTaken
+refusal_of_unfit graph.OutOfMemory = OutOfMemory
+refusal_of_unfit e = Peer peer.ActorInUse
+
+abbrev pub refusal_of_edit_at : EditAtError → CommandError
+refusal_of_edit_at (edit_at.Unfit e) = refusal_of_unfit e
+refusal_of_edit_at (edit_at.Peer e) = refusal_of_peer e
 
 abbrev pub command_refusal_of_document : DocError → CommandError
 command_refusal_of_document doc.OutOfMemory = OutOfMemory

@@ -1,10 +1,12 @@
 pub mod CommandError
+pub mod Cutting
 pub mod Reading
 pub mod Refusing
 pub mod Log
 pub mod Pretty
 pub mod Graph
 pub mod Diff
+pub mod Since
 pub mod Status
 pub mod Editing
 pub mod Updating

@@ -20,6 +20,7 @@ use Rattle.tp_peer.specs.PeerStep.{Edit}
 use Rattle.tp_edit.specs.Text.{IsTextOf}
 use Rattle.tp_commands.specs.declared.error.CommandError.{CommandError}
 use Rattle.tp_commands.specs.declared.error.CommandError.TheVariants.{NotEmpty, OutOfMemory}
+use Rattle.tp_commands.specs.Cutting.{AreStretchesCut}
 use Rattle.tp_commands.specs.Refusing.{RefusesJournalOpening, RefusesCall}
 
 -- The first of the later splices would make the operations of these more than a change may have.
@@ -41,7 +42,8 @@ hashes_of C = map hash_of C
 
 -- The journal's text was made this one by changes of an actor that none of those before has, which were put after
 -- these. They are the edits of the differences between the text that the journal had and this one: none where both are
--- equal, and one alone where the differences together are of no more operations than a change may have.
+-- equal, and one alone where the differences together are of no more operations than a change may have. They go from the
+-- beginning of the text to its end, and what one change can't hold of a stretch is cut so that deletes and inserts go together.
 pub record UpdatesJournal (before : List ℕ) (actor : Actor) (text : List ℕ) (time : ℕ) (message : List ℕ) (hashes : List Hash) (after : List ℕ) : Type 0 where
   pub id : DocId
   pub changes : List ChangeParts
@@ -52,6 +54,7 @@ pub record UpdatesJournal (before : List ℕ) (actor : Actor) (text : List ℕ) 
   pub was_text : IsTextOf changes old
   pub differences : List Splice
   pub leads : LeadAcross MAX_OPS old text differences
+  pub cut : AreStretchesCut old text differences
   pub made : List ChangeParts
   pub edits : AreEditsOf actor time message changes differences [] made
   pub none : old ≡ text → made ≡ []
@@ -83,6 +86,7 @@ pub record MakesText (p : PeerState) (text : List ℕ) (time : ℕ) (message : L
   pub was_text : IsTextOf p.applied old
   pub differences : List Splice
   pub leads : LeadAcross MAX_OPS old text differences
+  pub cut : AreStretchesCut old text differences
   pub makes : MakesEdits p differences [] time message hashes after
   pub is_text : IsTextOf after.applied text
 

@@ -2,14 +2,15 @@
 
 ghost use Rattle.std.specs.Prelude.{◌≡◌};
 ghost use Rattle.tp_commands.specs.declared.error.CommandError.TheVariants.{OutOfMemory};
-ghost use Rattle.tp_commands.specs.CommandError.{code_of, IsOfSystem, command_refusal_of_bytes, command_refusal_of_document, command_refusal_of_journal, refusal_of_opening, refusal_of_peer};
+ghost use Rattle.tp_commands.specs.CommandError.{code_of, IsOfSystem, command_refusal_of_bytes, command_refusal_of_document, command_refusal_of_journal, refusal_of_edit_at, refusal_of_opening, refusal_of_peer};
 
 use std::alloc::{AllocError, AllocFailed};
 use std::io;
 use std::io::ErrorKind;
 use tp_document::DocError;
+use tp_graph::GraphError;
 use tp_journal::{JournalError, OpenError};
-use tp_peer::PeerError;
+use tp_peer::{EditAtError, PeerError};
 use tp_store::StoreError;
 
 /// Why what was asked of bytes or of a journal was refused.
@@ -89,6 +90,20 @@ impl From<PeerError> for CommandError {
         match error {
             PeerError::OutOfMemory => CommandError::OutOfMemory,
             error => CommandError::Peer(error),
+        }
+    }
+}
+
+impl From<EditAtError> for CommandError {
+    ghost from_gives = { λ error e. e ≡ refusal_of_edit_at error };
+
+    fn from(error: EditAtError) -> CommandError {
+        match error {
+            EditAtError::Unfit(GraphError::Full) => CommandError::Doc(DocError::Full),
+            EditAtError::Unfit(GraphError::Known) => CommandError::Doc(DocError::HashTaken),
+            EditAtError::Unfit(GraphError::OutOfMemory) => CommandError::OutOfMemory,
+            EditAtError::Unfit(_) => CommandError::Peer(PeerError::ActorInUse),
+            EditAtError::Peer(error) => CommandError::from(error),
         }
     }
 }

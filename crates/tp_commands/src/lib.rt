@@ -1,6 +1,7 @@
 //! What the commands of `textpeer` do to bytes and journals.
 #![tactic(auto)]
 
+mod cutting;
 mod diff;
 mod editing;
 mod error;
@@ -9,6 +10,7 @@ pub mod laws;
 mod log;
 mod pretty;
 mod reading;
+mod since;
 mod status;
 mod updating;
 
@@ -22,5 +24,6 @@ pub use reading::{
     Recovery, cursor_line, hash_line, head_lines, id_line, made_lines, raw_text, saved_file,
     text_line,
 };
+pub use since::{Metadata, update};
 pub use status::{Lock, status_lines};
-pub use updating::{import, text_in_file, update};
+pub use updating::{import, text_in_file};

@@ -1,6 +1,6 @@
 //! What is read of a journal, as the text to print. A journal is what was recovered while its bytes came.
 
-ghost use Rattle.std.specs.Prelude.{◌≡◌, ◌⊎◌, ℕ, Some, None, Ok, IfOk, IfErr, IsOkUnless, false};
+ghost use Rattle.std.specs.Prelude.{◌≡◌, ◌⊎◌, ℕ, Some, None, Ok, IfOk, IfErr, IsOkUnless, IsTrue, OnOk, false};
 ghost use Rattle.std.specs.List.{flat_map};
 ghost use Rattle.std.specs.Str.{chars};
 ghost use Rattle.std.specs.String.{string_bytes};
@@ -60,6 +60,20 @@ pub(crate) fn text_in(document: &Text, heads: &[Hash]) -> Result<String, DocErro
         document.text()
     } else {
         document.text_at(heads)
+    }
+}
+
+// The text of a document at the heads, each of which has to be that of a change.
+pub(crate) fn earlier_text(document: &Text, heads: &[Hash]) -> Result<String, DocError>
+    ensures text { IfOk result (λ text. IsTextOf (past document.now.applied heads.now)
+        (chars (string_bytes text))) }
+    ensures known { OnOk result (IsTrue (has_all document.now.applied heads.now)) }
+    ensures err { IfErr result (λ e. (e ≡ doc.OutOfMemory)
+        ⊎ ((e ≡ doc.UnknownHead) × (has_all document.now.applied heads.now ≡ false))) }
+{
+    match document.text_at(heads) {
+        Ok(text) => Ok(text),
+        Err(error) => Err(error),
     }
 }
 

@@ -14,13 +14,13 @@ ghost use Rattle.tp_commands.specs.declared.error.CommandError.TheVariants.{NotT
 ghost use Rattle.tp_commands.specs.Updating.{HasNoCharacters, IsFullBefore, IsNotImported, IsNotRewritten, IsNotUpdated, MakesEdits, MakesNext, MakesText, StopsNext, UpdatesJournal};
 ghost use Rattle.tp_edit.specs.Splices.{count_of_splice, total_count};
 
+use crate::cutting::differences_in_parts;
 use crate::editing::reopen;
 use crate::error::CommandError;
 use crate::reading::Recovery;
 use std::alloc::Global;
 use std::str;
 use tp_change::MAX_OPS;
-use tp_diff::differences;
 use tp_edit::Splice;
 use tp_journal::{Journal, Recovered};
 use tp_opid::{Actor, Hash};
@@ -41,7 +41,7 @@ pub fn text_in_file(bytes: &[u8]) -> Result<&str, CommandError>
 }
 
 // Of how many of the splices one change is made: as many as it may have the operations of, and one at least.
-fn group_len(splices: &[Splice]) -> usize
+pub(crate) fn group_len(splices: &[Splice]) -> usize
     requires { 0 < length splices.now }
     ensures some { 0 < result }
     ensures within { result ≤ length splices.now }
@@ -122,14 +122,14 @@ fn rewrite<J: Journal>(
     ensures err { IfErr result (λ e. IsNotRewritten peer.old time (chars message.now) e) }
 {
     let before = peer.document().text()?;
-    let splices = differences(alloc, before.as_str(), text, MAX_OPS)?;
+    let splices = differences_in_parts(alloc, before.as_str(), text)?;
     edit_all(alloc, peer, &splices, time, message)
 }
 
 /// Makes the journal's text this one, under the actor, by changes that are appended to the journal; it comes with what its
 /// content recovered to. Answers their hashes: of one change where the text's differences are at most 65,536 operations, and else
 /// of as many as it takes; of none where the text is this one already. Where it stops, a beginning of them is made.
-pub fn update<J: Journal>(
+pub(crate) fn update_now<J: Journal>(
     alloc: Global,
     opened: (J, Recovery),
     actor: Actor,
@@ -160,7 +160,7 @@ pub fn update<J: Journal>(
     }
 }
 
-/// Makes the text of a journal this one, as [`update`], where its text is empty; another is refused as `NotEmpty`.
+/// Makes the text of a journal this one, as [`update`](crate::update), where its text is empty; another is refused as `NotEmpty`.
 pub fn import<J: Journal>(
     alloc: Global,
     opened: (J, Recovered<PeerSequence>),
@@ -181,7 +181,7 @@ pub fn import<J: Journal>(
 {
     let (journal, recovered) = opened;
     match has_text(&recovered) {
-        Ok(false) => update(alloc, (journal, Ok(recovered)), actor, text, time, message),
+        Ok(false) => update_now(alloc, (journal, Ok(recovered)), actor, text, time, message),
         Ok(true) => {
             drop(journal);
             drop(recovered);

@@ -4,6 +4,7 @@ ghost use Rattle.std.specs.Prelude.{IfOk, OnOk};
 ghost use Rattle.tp_disk.specs.DiskView.{WasLeft};
 ghost use Rattle.tp_disk.specs.Opening.{KeepsTail, cut_path};
 
+use crate::files::Disk;
 use crate::folders::Folders;
 use crate::replacing::put_new;
 use tp_commands::CommandError;
@@ -30,6 +31,21 @@ fn put_cut<D: Folders + AllocGlobal>(
         }
         put => put,
     }
+}
+
+// Whether the journal at the path has other bytes from the offset on than those that are kept of it, or none.
+fn is_off<D: Disk + AllocGlobal>(rt: &D, path: &str, at: u64) -> Result<bool, CommandError> {
+    let place = format!(in rt.alloc(); "{path}.cut-{at}")?;
+    let kept = rt.read(place.as_str())?;
+    let journal = rt.read(path)?;
+    let begin = journal.len().min(usize::try_from(at).unwrap_or(usize::MAX));
+    Ok(&journal.as_slice()[begin..] != kept.as_slice())
+}
+
+/// Whether the bytes that are kept of the journal at the path, from the offset on, aren't in it any more: the path's file
+/// and the one that keeps them are read. `false` where one of these can't be read.
+pub fn is_cut<D: Disk + AllocGlobal>(rt: &D, path: &str, at: u64) -> bool {
+    is_off(rt, path, at).unwrap_or(false)
 }
 
 /// Keeps the bytes that opening the journal at the path cuts off, as [`Disk::journal`](crate::Disk::journal)

@@ -2,20 +2,21 @@
 
 ghost use Rattle.std.specs.Prelude.{◌≡◌, [], IfOk, OnOk, Ok};
 ghost use Rattle.tp_journal.specs.Calls.{IsAllSynced};
-ghost use Rattle.tp_recovery.specs.Recovery.{Recovers};
+ghost use Rattle.tp_recovery.specs.Recovery.{HasTail, Recovers};
 ghost use Rattle.tp_disk.specs.DiskView.{WasLeft, WasLocked, WasRead};
 ghost use Rattle.tp_disk.specs.Opening.{CutsJournal, KeepsTail};
 
 use crate::cutting::keep_cut;
-use crate::folders::Folders;
+use crate::folders::{Folders, is_of_system};
 use crate::locks::{FileId, lock_in};
-use std::fs::OpenFile;
+use std::fs::{OpenFile, OpenOptions};
 use std::io::{ErrorKind, Read, Seek, Write};
 use std::os::unix::fs::MetadataExt;
 use std::rt::Files;
-use std::{fs, io};
+use std::time::{Clock, Duration};
+use std::{fs, io, thread};
 use tp_commands::{CommandError, Lock, Recovery};
-use tp_journal::{DurableJournal, Journal, Lockable, Recovered, Recovering};
+use tp_journal::{DurableJournal, Journal, Lockable, OpenError, Recovered, Recovering};
 use tp_peer::PeerSequence;
 
 /// A journal that was opened to write.
@@ -27,6 +28,29 @@ pub struct Opened<F: Write + OpenFile + Drop> {
     pub recovered: Recovered<PeerSequence>,
     /// The offset of the bytes that are cut off it, where these are kept, since a whole record is in them.
     pub cut: Option<u64>,
+}
+
+/// Why a file can't be used, as far as the system says.
+#[derive(Clone, Copy, Debug, PartialEq, Eq)]
+pub enum Cause {
+    /// Nothing is at the path.
+    NotThere,
+    /// A folder is there.
+    Folder,
+    /// What is there is no regular file, as a pipe.
+    NoFile,
+    /// A part of the path is no folder.
+    NoFolder,
+    /// A name in the path is too long.
+    TooLong,
+    /// This user may not enter its folder.
+    Closed,
+    /// This user may not read it.
+    NotRead,
+    /// This user may not write it.
+    NotWritten,
+    /// The system says no more.
+    Unknown,
 }
 
 /// Files at paths, as commands meet them.
@@ -41,22 +65,31 @@ pub trait Disk: Folders {
     /// Opens a file to read it.
     fn open(&self, path: &str) -> Result<Self::File, CommandError>;
 
-    /// Why the file at the path can't be opened to be read, as far as the system says now; `None` where it can.
-    fn cause(&self, path: &str) -> Option<&'static str>;
+    /// Why the file at the path can't be read, as far as the system says now; `None` where it can.
+    fn cause(&self, path: &str) -> Option<Cause>;
+
+    /// Why the file at the path can't be written, likewise. It stays as it is.
+    fn write_cause(&self, path: &str) -> Option<Cause>;
+
+    /// Refuses what isn't to be read as a journal, as `Io` and without waiting: a folder, a pipe, and what else is no
+    /// regular file. A path of the system's own, as `/dev/stdin`, may lead to a pipe.
+    fn check_journal(&self, path: &str) -> Result<(), CommandError>;
 
     /// All bytes of a file.
     fn read(&self, path: &str) -> Result<Vec<u8>, CommandError>
         ensures { IfOk result (λ bytes. Self.saw self.now (WasRead path.now bytes.items)) };
 
-    /// The journal at a path, recovered while its bytes are read.
+    /// The journal at a path, recovered while its bytes are read. What [`check_journal`](Disk::check_journal) refuses is
+    /// refused so.
     fn recover(&self, path: &str) -> Result<Recovering<PeerSequence>, CommandError>
         ensures { IfOk result (λ journal. Self.saw self.now (WasRead path.now journal)) };
 
     /// Who has a file's lock. It isn't taken.
     fn lock(&self, path: &str) -> Lock;
 
-    /// The journal in a file, which has the file's lock until it ends. An absent file is made. Where another has the lock it
-    /// is refused as `Busy`.
+    /// The journal in a file, which has the file's lock until it ends. An absent file is made. Where another has the lock,
+    /// and doesn't end within five seconds, it is refused as `Busy`. What [`check_journal`](Disk::check_journal) refuses
+    /// is refused so.
     fn make_journal(&self, path: &str) -> Result<DurableJournal<Self::File>, CommandError>
         ensures { IfOk result (λ j. Self.saw self.now (WasLocked path.now j.file.content)) };
 
@@ -117,8 +150,76 @@ fn opened_journal<R: Files + AllocGlobal>(
     }
 }
 
+// How often a lock that another has is tried again.
+const TRIES: u64 = 20;
+
+// Waits for the next try: a quarter of a second.
+fn pause<C: Clock>(clock: &C) {
+    thread::sleep(clock, Duration::from_millis(250));
+}
+
+// The journal in the file, once its lock is free: it is tried again for five seconds.
+fn locked_journal<R: Files + Clock + AllocGlobal>(
+    rt: &R,
+    path: &str,
+) -> Result<DurableJournal<R::File>, OpenError>
+where
+    R::File: Lockable,
+{
+    for _ in 0..TRIES {
+        match DurableJournal::at(rt, rt.alloc(), path, true) {
+            Err(OpenError::Busy) => pause(rt),
+            opened => return opened,
+        }
+    }
+    DurableJournal::at(rt, rt.alloc(), path, true)
+}
+
+// The journal in the file, with what it recovers to, once its lock is free: it is tried again for five seconds.
+fn locked_recovery<R: Files + Clock + AllocGlobal>(
+    rt: &R,
+    path: &str,
+) -> Result<(DurableJournal<R::File>, Recovery), OpenError>
+where
+    R::File: Lockable,
+    ensures ok { IfOk result (λ opened. IfOk opened.1 (λ r.
+        Recovers opened.0.file.content r.document.id r.document.applied r.keep
+        × (r.document.waiting ≡ []))) }
+    ensures tail { IfOk result (λ opened. IfOk opened.1
+        (λ r. HasTail opened.0.file.content r.keep r.tail.items)) }
+{
+    for _ in 0..TRIES {
+        match DurableJournal::recovering(rt, rt.alloc(), path, false) {
+            Err(OpenError::Busy) => pause(rt),
+            opened => return opened,
+        }
+    }
+    DurableJournal::recovering(rt, rt.alloc(), path, false)
+}
+
+// Why the system has no file at the path.
+fn cause_of(kind: ErrorKind) -> Cause {
+    match kind {
+        ErrorKind::NotFound => Cause::NotThere,
+        ErrorKind::NotADirectory => Cause::NoFolder,
+        ErrorKind::InvalidFilename => Cause::TooLong,
+        ErrorKind::PermissionDenied => Cause::Closed,
+        _ => Cause::Unknown,
+    }
+}
+
+// What the path leads to, where that is no regular file.
+fn other_than_file<R: Files>(rt: &R, path: &str) -> Option<Cause> {
+    match fs::metadata(rt, path) {
+        Ok(found) if found.is_file() => None,
+        Ok(found) if found.is_dir() => Some(Cause::Folder),
+        Ok(_) => Some(Cause::NoFile),
+        Err(error) => Some(cause_of(error.kind())),
+    }
+}
+
 /// The files of the system. Its calls promise nothing of them.
-impl<R: Files + AllocGlobal> Disk for R
+impl<R: Files + Clock + AllocGlobal> Disk for R
 where
     R::File: Lockable,
 {
@@ -128,18 +229,30 @@ where
         Ok(fs::open(self, path)?)
     }
 
-    fn cause(&self, path: &str) -> Option<&'static str> {
-        match fs::metadata(self, path) {
-            Ok(found) if !found.is_file() => Some("it is no file, but a folder or the like"),
-            Ok(_) => match fs::open(self, path) {
+    fn cause(&self, path: &str) -> Option<Cause> {
+        match other_than_file(self, path) {
+            Some(cause) => Some(cause),
+            None => match fs::open(self, path) {
                 Ok(_) => None,
-                Err(_) => Some("it may not be opened"),
+                Err(_) => Some(Cause::NotRead),
             },
-            Err(error) => Some(match error.kind() {
-                ErrorKind::NotFound => "there is no such file: textpeer new makes a journal",
-                ErrorKind::PermissionDenied => "its folder may not be entered",
-                _ => "the system doesn't find it",
-            }),
+        }
+    }
+
+    fn write_cause(&self, path: &str) -> Option<Cause> {
+        match other_than_file(self, path) {
+            Some(cause) => Some(cause),
+            None => match OpenOptions::new().append(true).open(self, path) {
+                Ok(_) => None,
+                Err(_) => Some(Cause::NotWritten),
+            },
+        }
+    }
+
+    fn check_journal(&self, path: &str) -> Result<(), CommandError> {
+        match other_than_file(self, path) {
+            Some(Cause::Folder | Cause::NoFile) if !is_of_system(path) => Err(CommandError::Io),
+            _ => Ok(()),
         }
     }
 
@@ -148,6 +261,7 @@ where
     }
 
     fn recover(&self, path: &str) -> Result<Recovering<PeerSequence>, CommandError> {
+        self.check_journal(path)?;
         let mut file = fs::open(self, path)?;
         let mut journal = Recovering::new(self.alloc());
         match io::copy(&mut file, &mut journal) {
@@ -173,11 +287,13 @@ where
     }
 
     fn make_journal(&self, path: &str) -> Result<DurableJournal<R::File>, CommandError> {
-        Ok(DurableJournal::at(self, self.alloc(), path, true)?)
+        self.check_journal(path)?;
+        Ok(locked_journal(self, path)?)
     }
 
     fn journal(&self, path: &str) -> Result<Opened<R::File>, CommandError> {
-        let (journal, recovery) = DurableJournal::recovering(self, self.alloc(), path, false)?;
+        self.check_journal(path)?;
+        let (journal, recovery) = locked_recovery(self, path)?;
         opened_journal(self, path, journal, recovery)
     }
 

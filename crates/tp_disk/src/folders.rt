@@ -132,8 +132,8 @@ fn led_to(alloc: Global, link: &str, target: &str) -> Result<String, AllocError>
     }
 }
 
-// Whether the path is one of the system's own, as that of the standard output.
-fn is_of_system(path: &str) -> bool {
+/// Whether the path is one of the system's own, as that of the standard output.
+pub(crate) fn is_of_system(path: &str) -> bool {
     path.starts_with("/dev/") || path.starts_with("/proc/")
 }
 

@@ -9,8 +9,9 @@ mod keys;
 mod locks;
 mod replacing;
 
-pub use files::{Disk, Opened};
+pub use cutting::is_cut;
+pub use files::{Cause, Disk, Opened};
 pub use folders::{Folders, Found};
 pub use keys::{draw, draw_actor, generator, key_or_random};
 pub use locks::{FileId, lock_in};
-pub use replacing::{put_new, replace};
+pub use replacing::{begins_journal, put_new, replace};

@@ -11,8 +11,8 @@ use tp_commands::CommandError;
 use tp_journal::MAGIC;
 use tp_peer::PeerError;
 
-// Whether the file begins as a journal does.
-fn begins_journal<D: Disk>(rt: &D, path: &str) -> Result<bool, CommandError> {
+/// Whether the file at the path begins as a journal does.
+pub fn begins_journal<D: Disk>(rt: &D, path: &str) -> Result<bool, CommandError> {
     let mut first = [0; MAGIC.len()];
     match rt.open(path)?.read_exact(&mut first) {
         Ok(()) => Ok(first == MAGIC),

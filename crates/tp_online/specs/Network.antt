@@ -5,6 +5,7 @@ use Rattle.std.specs.List.{flat_map}
 use Rattle.std.specs.Net.Socket.{socket_ip}
 use Rattle.std.specs.Net.Text.{socket_text}
 use Rattle.std.specs.declared.net.socket_addr.SocketAddr.{SocketAddr}
+use Rattle.hex.specs.Hex.{encode_lower}
 use Rattle.tp_frame.specs.declared.frame.Frame.{Frame}
 use Rattle.tp_frame.specs.Frame.{frame_spelling}
 use Rattle.tp_command_line.specs.declared.job.Hosting.{Hosting}
@@ -23,20 +24,20 @@ served_line sessions = line (codes "served " ++ decimal sessions)
 abbrev pub met_line : ℕ → List ℕ
 met_line applied = if applied == 0 then [] else applied_line applied
 
--- the line of a page's address
-abbrev pub page_line : SocketAddr → List ℕ
-page_line page = line (codes "http://" ++ socket_text page ++ codes "/")
+-- the line of a page's address, with the key that its windows have to know
+abbrev pub page_line : SocketAddr → List ℕ → List ℕ
+page_line page key = line (codes "http://" ++ socket_text page ++ codes "/#" ++ encode_lower key)
 
 -- the line of the port at which a page's program serves sessions, where it does
 abbrev pub beside_line : Option ℕ → List ℕ
 beside_line None = []
 beside_line (Some port) = listening_line port
 
--- The bytes are what is printed of a page: where it is, at the IP address that was asked for, and the port at which sessions are
--- served beside it, where that was asked for.
+-- The bytes are what is printed of a page: where it is, at the IP address that was asked for, some key, and the port at which
+-- sessions are served beside it, where that was asked for.
 abbrev pub IsPageShown : Hosting → List ℕ → Type 0
-IsPageShown hosting printed = (page : SocketAddr) × (port : Option ℕ) × (socket_ip page ≡ socket_ip hosting.page)
-    × (is_some port ≡ is_some hosting.serve) × (printed ≡ page_line page ++ beside_line port)
+IsPageShown hosting printed = (page : SocketAddr) × (key : List ℕ) × (port : Option ℕ) × (socket_ip page ≡ socket_ip hosting.page)
+    × (is_some port ≡ is_some hosting.serve) × (printed ≡ page_line page key ++ beside_line port)
 
 -- The bytes are what a server prints that held this many sessions: first the port on which it listens.
 abbrev pub IsServeOutput : ℕ → List ℕ → Type 0

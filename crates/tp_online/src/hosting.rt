@@ -57,7 +57,7 @@ fn take_last(alloc: Global, seats: &mut Vec<Seat>, count: usize) -> Result<Vec<S
 // Shows the page on the seats, until no connection can be accepted; then the sender is gone.
 #[tactic(auto, using(crate::proofs::PartLaws::by_turns))]
 fn show<
-    R: Threads + Wait + Clock + Sync,
+    R: Threads + Wait + Clock + Eprint + Sync,
     S: Read + Write + OpenStream + Send + Drop,
     L: OpenListener<Stream = S> + Sync + Drop,
     J: Journal + Send,
@@ -390,7 +390,7 @@ fn gather(
 /// Shows the page on the seats, holds sessions and follows a server, as far as that is asked for, each on seats of its own, until
 /// neither connections of the page nor sessions can be accepted. The seats come back, in their order.
 pub(crate) fn take_part<
-    R: Threads + Wait + Clock + Sync,
+    R: Threads + Wait + Clock + Eprint + Sync,
     S: Read + Write + OpenStream + Send + Drop,
     L: OpenListener<Stream = S> + Sync + Drop,
     T: Read + Write + OpenStream + Drop,

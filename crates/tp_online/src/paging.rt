@@ -32,15 +32,30 @@ use tp_patient::{Patient, Places};
 use tp_peer::Peer;
 use tp_report::{JobError, put, report};
 use tp_served::MAX_SEATS;
-use tp_web::Site;
+use tp_web::{Secret, Site};
 
-// The line of a page's address, and that of the port of sessions beside it, where there is one.
-fn page_lines(alloc: Global, page: SocketAddr, port: Option<u16>) -> Result<String, CommandError>
-    ensures ok { IfOk result (λ l. string_bytes l ≡ line_of_page page ++ beside_line port) }
+// What makes a page one of this run: drawn from the system, whatever the key of the random numbers is.
+fn draw_secret<D: Disk>(rt: &D) -> Result<Secret, CommandError> {
+    let drawn = key_or_random(rt, None)?;
+    let mut key = [0; 16];
+    key.copy_from_slice(&drawn[..16]);
+    let challenges = key_or_random(rt, None)?;
+    Ok(Secret { key, challenges })
+}
+
+// The line of a page's address with its key, and that of the port of sessions beside it, where there is one.
+fn page_lines(
+    alloc: Global,
+    page: SocketAddr,
+    key: &[u8; 16],
+    port: Option<u16>,
+) -> Result<String, CommandError>
+    ensures ok { IfOk result (λ l. string_bytes l ≡ line_of_page page key.now ++ beside_line port) }
 {
+    let digits = hex::encode(alloc, key)?;
     match port {
-        Some(port) => Ok(format!(in alloc; "http://{page}/\nlistening {port}\n")?),
-        None => Ok(format!(in alloc; "http://{page}/\n")?),
+        Some(port) => Ok(format!(in alloc; "http://{page}/#{digits}\nlistening {port}\n")?),
+        None => Ok(format!(in alloc; "http://{page}/#{digits}\n")?),
     }
 }
 
@@ -48,15 +63,16 @@ fn page_lines(alloc: Global, page: SocketAddr, port: Option<u16>) -> Result<Stri
 fn tell_page<W: Write>(
     alloc: Global,
     page: SocketAddr,
+    key: &[u8; 16],
     port: Option<u16>,
     out: &mut W,
 ) -> Result<(), JobError>
     ensures ok { OnOk result (Appends (W.contents out.old) (W.contents out.new)
-        (line_of_page page ++ beside_line port)) }
+        (line_of_page page key.now ++ beside_line port)) }
     ensures err { IfErr result (λ _. AppendsPart (W.contents out.old) (W.contents out.new)
-        (line_of_page page ++ beside_line port)) }
+        (line_of_page page key.now ++ beside_line port)) }
 {
-    put(out, page_lines(alloc, page, port))
+    put(out, page_lines(alloc, page, key, port))
 }
 
 // What accepts sessions beside a page, where that is asked for, and its port.
@@ -80,12 +96,13 @@ fn stage_at<R: Net + AllocGlobal>(
     rt: &R,
     listener: R::Listener,
     page: SocketAddr,
+    secret: Secret,
     serve: Option<Address>,
 ) -> Result<(Stage<R::Listener>, Option<u16>), JobError>
     ensures { IfOk result (λ s. (is_some s.0.sessions ≡ is_some serve.entry)
         × (is_some s.1 ≡ is_some serve.entry)) }
 {
-    match Site::at(rt.alloc(), page) {
+    match Site::at(rt.alloc(), page, secret) {
         Ok(site) => {
             let (sessions, port) = bound_beside(rt, serve)?;
             let stage = Stage {
@@ -207,6 +224,7 @@ fn show_at<
     rt: &R,
     listening: Listening<R::Listener, F>,
     hosting: &Hosting<'_>,
+    secret: Secret,
     key: [u8; 32],
     out: &mut W,
 ) -> Result<Peer<DurableJournal<F>>, JobError>
@@ -225,8 +243,8 @@ where
         peer,
     } = listening;
     let page = SocketAddr::new(hosting.page.ip(), port);
-    match stage_at(rt, listener, page, hosting.serve) {
-        Ok((stage, beside)) => match tell_page(rt.alloc(), page, beside, out) {
+    match stage_at(rt, listener, page, secret, hosting.serve) {
+        Ok((stage, beside)) => match tell_page(rt.alloc(), page, &secret.key, beside, out) {
             Ok(()) => show_peer(rt, stage, hosting, peer, key),
             Err(error) => {
                 drop(peer);
@@ -240,8 +258,9 @@ where
     }
 }
 
-/// Shows the journal at a path as a page, which is of this machine: its address is printed once it listens, with the port of the
-/// sessions that are served beside it, where these are asked for. It is served until no connection can be accepted any more, with
+/// Shows the journal at a path as a page, which is of this machine: its address is printed once it listens, with the key that its
+/// windows have to know, which is drawn from the system, and the port of the sessions that are served beside it, where these are
+/// asked for. It is served until no connection can be accepted any more, with
 /// up to 64 windows at once, or 48 beside sessions and a server that is followed. What was cut off the journal is said once it
 /// listens; how sessions with the server end that is followed is printed by the runtime, and not to `err`. The peer that the
 /// closing gave back; one whose journal failed meanwhile is refused.
@@ -277,11 +296,12 @@ where
 {
     let actor = draw_actor(rt, key)?;
     let windows = key_or_random(rt, key)?;
+    let secret = draw_secret(rt)?;
     match listen(rt, file, Address::Socket(hosting.page), actor, cut) {
         Ok(listening) => {
             report(rt.alloc(), file, *cut, None, err);
             *cut = None;
-            show_at(rt, listening, &hosting, windows, out)
+            show_at(rt, listening, &hosting, secret, windows, out)
         }
         Err(error) => Err(error),
     }

@@ -1,3 +1,4 @@
 pub mod LineCauses
 pub mod DoneLaws
 pub mod NoteLaws
+pub mod CutLaws

@@ -9,6 +9,7 @@ use Rattle.tp_edit.specs.declared.splice.Splice.{Splice}
 use Rattle.tp_peer.specs.PeerState.{PeerState}
 use Rattle.tp_commands.specs.Editing.{EditsJournal, TakesJournal}
 use Rattle.tp_commands.specs.Reading.{hash_line, lines_of_made}
+use Rattle.tp_commands.specs.Since.{UpdatesFrom}
 use Rattle.tp_commands.specs.Updating.{HasNoCharacters, UpdatesJournal}
 use Rattle.tp_program.specs.Files.{BeginsJournal}
 use Rattle.tp_disk.specs.Opening.{OpensJournal}
@@ -38,12 +39,13 @@ pub record IsEditLine (key : Option (List ℕ)) (splice : Splice) (time : ℕ) (
   pub edits : EditsJournal before (drawn_actor generator) splice time message made after
   pub spelled : printed ≡ made_line made
 
--- The lines of the changes that made a journal's text this one, under the actor that is drawn under the key.
-pub record AreUpdateLines (key : Option (List ℕ)) (text : List ℕ) (time : ℕ) (message before after printed : List ℕ) : Type 0 where
+-- The lines of the changes that made a journal's text this one, under the actor that is drawn under the key: the text at the
+-- heads, where any are given, and else the text of all changes.
+pub record AreUpdateLines (key : Option (List ℕ)) (since : List Hash) (text : List ℕ) (time : ℕ) (message before after printed : List ℕ) : Type 0 where
   pub generator : ChaCha
   pub hashes : List Hash
   pub keyed : IsKeyed key generator
-  pub updates : UpdatesJournal before (drawn_actor generator) text time message hashes after
+  pub updates : UpdatesFrom since before (drawn_actor generator) text time message hashes after
   pub spelled : printed ≡ lines_of_made hashes
 
 -- A journal was made without text, under the actor that is drawn second.

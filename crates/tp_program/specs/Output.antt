@@ -52,8 +52,8 @@ IsFilesPrinted saw (New file key) printed = ChangesFile saw file.now (λ before 
 IsFilesPrinted saw (Edit file at del text time message key) printed =
     OfInserted saw text (λ inserted. ChangesFile saw file.now (λ before after.
     IsEditLine key (record { at = at; del = del; text = inserted }) time (chars message.now) before after printed))
-IsFilesPrinted saw (Update file source time message key) printed = OfGiven saw source.now (λ bytes.
-    ChangesFile saw file.now (λ before after. AreUpdateLines key (chars bytes) time (chars message.now) before after printed))
+IsFilesPrinted saw (Update file source since time message key) printed = OfGiven saw source.now (λ bytes.
+    ChangesFile saw file.now (λ before after. AreUpdateLines key since.items (chars bytes) time (chars message.now) before after printed))
 IsFilesPrinted saw (Import file source time message key) printed = OfGiven saw source.now (λ bytes.
     ChangesFile saw file.now (λ before after. AreImportLines key (chars bytes) time (chars message.now) before after printed))
 IsFilesPrinted saw (Text file is_raw heads) printed = OfFile saw file.now (λ journal. IsTextPrinted is_raw journal heads.items printed)
@@ -86,7 +86,7 @@ IsJobOutput saw (Web file hosting key) printed = IsPageShown hosting printed
 -- What the error stream says of the job, where bytes were cut off the journal that it opened: from which offset on.
 abbrev pub CutsFor : (DiskView → Type 0) → FileJob → Option ℕ → Type 0
 CutsFor saw (Edit file at del text time message key) cut = CutsFile saw file.now cut
-CutsFor saw (Update file source time message key) cut = CutsFile saw file.now cut
+CutsFor saw (Update file source since time message key) cut = CutsFile saw file.now cut
 CutsFor saw (Import file source time message key) cut = CutsFile saw file.now cut
 CutsFor saw (Merge file other key) cut = CutsFile saw file.now cut
 CutsFor saw job cut = cut ≡ None

@@ -1,6 +1,5 @@
 -- What the words of a command line ask for, and what the streams hold afterwards.
-use Rattle.std.specs.Prelude.{◌≡◌, ◌≢◌, ◌⊎◌, ℕ, Bool, true, false, if◌then◌else◌, List, [], ◌∷◌, Option, None, codes, drop}
-use Rattle.std.specs.Str.{bytes_eq}
+use Rattle.std.specs.Prelude.{◌≡◌, ◌≢◌, ◌⊎◌, ℕ, Bool, List, [], Option, None}
 use Rattle.std.specs.Io.KnownBytes.{Keeps}
 use Rattle.clap.specs.Words.{Text, fault_of, subcommand_of}
 use Rattle.tp_command_line.specs.Commands.{IsFoundAs, subject_of, textpeer_app}
@@ -27,15 +26,6 @@ pub record Streams : Type 0 where
 
 abbrev pub as_streams : Option (List ℕ) → Option (List ℕ) → Option (List ℕ) → Option (List ℕ) → Streams
 as_streams early mid before after = record { early = early; mid = mid; before = before; after = after }
-
--- the word after the program's name is `--explain`
-abbrev pub asks_to_explain : List Text → Bool
-asks_to_explain (program ∷ word ∷ words) = bytes_eq word (codes "--explain")
-asks_to_explain words = false
-
--- the words without it; the first one is passed over
-abbrev pub job_words : List Text → List Text
-job_words words = if asks_to_explain words then drop 1 words else words
 
 -- the error is a request for help or for the version
 abbrev pub IsRequest : LineError → Type 0

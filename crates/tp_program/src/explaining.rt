@@ -9,7 +9,7 @@ ghost use Rattle.tp_report.specs.declared.error.JobError.{JobError as JobRefusal
 ghost use Rattle.tp_report.specs.Telling.{GrowsPart, IsLineOf};
 ghost use Rattle.tp_program.specs.Words.{IsMisuse, IsRequest, RefusesHelp};
 
-use std::alloc::Global;
+use std::alloc::{AllocError, Global};
 use std::fmt::Display;
 use std::io;
 use std::io::{ErrorKind, Write};
@@ -82,11 +82,29 @@ pub fn explain<W: Write, E: Write>(
     }
 }
 
+// What the parser says of a word that begins with a hyphen, up to that, and what is said in its place: its own advice is wrong of
+// the value of an option.
+const TIP: &str = "  tip: to pass '";
+
+const RIGHT_TIP: &str =
+    "  tip: a value that begins with - comes after its option and =, as --text=-x, or after --";
+
+// The text with the right advice.
+fn with_right_tip(alloc: Global, text: String) -> Result<String, AllocError> {
+    match text.split_once(TIP) {
+        Some((before, rest)) => match rest.split_once('\n') {
+            Some((_, after)) => format!(in alloc; "{before}{RIGHT_TIP}\n{after}"),
+            None => format!(in alloc; "{before}{RIGHT_TIP}"),
+        },
+        None => Ok(text),
+    }
+}
+
 // Prints the parser's text.
 fn put_fault<W: Write>(alloc: Global, fault: &LineError, out: &mut W) -> Result<(), JobError>
     ensures { IfErr result (λ e. RefusesHelp e (W.contents out.old) (W.contents out.new)) }
 {
-    let text = format!(in alloc; "{fault}")?;
+    let text = with_right_tip(alloc, format!(in alloc; "{fault}")?)?;
     match write_out(out, text.as_str().as_bytes()) {
         Ok(()) => Ok(()),
         Err(error) => Err(output_refusal(&error)),

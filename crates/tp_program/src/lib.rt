@@ -9,5 +9,5 @@ mod running;
 mod texts;
 
 pub use explaining::{Errors, MISUSED, explain};
-pub use program::{Terminals, run, run_job, run_words, run_words_on, without_explain};
+pub use program::{Terminals, refused_with, run, run_job, run_words, run_words_on};
 pub use running::carry_out;

@@ -3,12 +3,13 @@
 ghost use Rattle.std.specs.Prelude.{◌≡◌, ◌≤◌, ◌⊎◌, ℕ, List, map, Err, IfErr, IfOk, MatchResult, None, Ok, OnErr, OnOk, Option};
 ghost use Rattle.std.specs.Io.KnownBytes.{Keeps};
 ghost use Rattle.clap.specs.Words.{fault_of};
+ghost use Rattle.tp_command_line.specs.Asking.{job_words};
 ghost use Rattle.tp_command_line.specs.Commands.{subject_of, textpeer_app};
 ghost use Rattle.tp_command_line.specs.LineError.{MayBeDone};
 ghost use Rattle.tp_report.specs.declared.error.JobError.{JobError as Refusal};
 ghost use Rattle.tp_program.specs.Output.{CutsForJob, IsJobOutput, RefusesOutput, MayCutForJob, ReportsEarly, ReportsApplied, WasHeld, side_of};
 ghost use Rattle.tp_report.specs.Telling.{GrowsBy, GrowsPart, IsToldOf, Reports};
-ghost use Rattle.tp_program.specs.Words.{IsDone, RefusesJob, WasDone, RefusesHelpOrJob, WasUnread, WereAtFault, asks_to_explain, job_words, as_streams};
+ghost use Rattle.tp_program.specs.Words.{IsDone, RefusesJob, WasDone, RefusesHelpOrJob, WasUnread, WereAtFault, as_streams};
 ghost use Rattle.tp_report.specs.Notes.{IsNote};
 
 use crate::explaining::{Errors, MISUSED, explain};
@@ -21,9 +22,9 @@ use std::sync::Wait;
 use std::thread::Threads;
 use std::time::{Clock, Duration};
 use std::{env, io};
-use tp_command_line::{Job, line};
+use tp_command_line::{Job, Subject, line, words_asked};
 use tp_commands::CommandError;
-use tp_disk::Disk;
+use tp_disk::{Disk, is_cut};
 use tp_online::{Following, Serving, follow_file, serve_file, session_file, sync_file, web_file};
 use tp_report::{DONE, JobError, REFUSED, Shown, ended_with, exit_status, note, note_text, report};
 use tp_session::Role;
@@ -58,18 +59,6 @@ where
     }
 }
 
-/// Whether the word after the program's name is `--explain`, and the words without it: each refusal then has a line of two
-/// blanks below it that says which file it is about and what to do.
-pub fn without_explain<S: AsStr>(words: &[S]) -> (bool, &[S])
-    ensures explains { result.0 ≡ asks_to_explain (map S.text words.now) }
-    ensures words { map S.text result.1.now ≡ job_words (map S.text words.now) }
-{
-    match words {
-        [_, word, ..] if word.as_str() == "--explain" => (true, &words[1..]),
-        _ => (false, words),
-    }
-}
-
 // Whether the words ask for a session, which writes frames.
 fn is_session<S: AsStr>(words: &[S]) -> bool {
     match words.get(1) {
@@ -85,9 +74,9 @@ fn own_words<R: Env + AllocGlobal>(rt: &R) -> io::Result<Vec<String>> {
 /// Does what the words ask for, where the first is the program's name, and returns the exit status: 0 where it was
 /// done, as for `--help`; 1 where it was refused, with a line on the standard error, as [`JobError`] prints it, and a second
 /// one where something was made whose line couldn't be printed; 2 where the words are at fault, with the parser's text on the
-/// standard error, or the line of an edit with not one text. Where the standard output is a terminal, control characters
-/// other than newline and tab are shown there as Rust escapes them, but in the frames of `session`; where the standard error is
-/// one, and after `--explain`, refusals are explained.
+/// standard error, or the line of an edit with not one text. `--explain` and `help` are read before, as [`words_asked`] says.
+/// Where a stream is a terminal, control characters other than newline and tab are shown there as Rust escapes them, but in the
+/// frames of `session`; where the standard error is one, and with `--explain`, refusals are explained.
 pub fn run_words<
     R: Disk + Net + Threads + Wait + Clock + Input + Print + Eprint + AllocGlobal + Sync,
     S: AsStr,
@@ -102,16 +91,21 @@ where
     ensures misused { result ≡ MISUSED → WereAtFault (job_words (map S.text words.now)) }
 {
     let errors = Errors { rt };
-    let (is_asked, words) = without_explain(words);
-    let is_shown = terminals.output && !is_session(words);
-    run_words_on(
-        rt,
-        words,
-        is_asked || terminals.errors,
-        &mut rt.reader(),
-        &mut Shown::new(rt.alloc(), io::writer(rt), is_shown),
-        &mut io::writer(&errors),
-    )
+    let mut err = Shown::new(rt.alloc(), io::writer(&errors), terminals.errors);
+    match words_asked(rt.alloc(), words) {
+        Ok(asked) => {
+            let is_shown = terminals.output && !is_session(&asked.words);
+            run_words_on(
+                rt,
+                &asked.words,
+                asked.explains || terminals.errors,
+                &mut rt.reader(),
+                &mut Shown::new(rt.alloc(), io::writer(rt), is_shown),
+                &mut err,
+            )
+        }
+        Err(error) => exit_status(rt.alloc(), Err(JobError::from(error)), &mut err),
+    }
 }
 
 /// Does what [`run_words`] does, with a reader for the standard input, and writers for the standard output and the
@@ -154,7 +148,7 @@ where
 /// Does a job, and returns the exit status: 0 where it was done, and all that is printed of it was written to `out` and
 /// flushed; 1 where it was refused, with one line on `err`. `out` then has what was printed before; where `err` fails it has
 /// taken a beginning of the line.
-#[tactic(auto, using(crate::proofs::NoteLaws::noted))]
+#[tactic(auto, using(crate::proofs::CutLaws::said_or_not))]
 pub fn run_job<
     R: Disk + Net + Threads + Wait + Clock + Eprint + AllocGlobal + Sync,
     I: Read,
@@ -184,11 +178,41 @@ where
             report(rt.alloc(), subject.file, cut, reported, err);
             DONE
         }
-        Err(error) => {
-            let note = note(rt, explains, &subject, &error);
-            ended_with(rt.alloc(), error, subject.file, cut, note_text(&note), err)
-        }
+        Err(error) => refused_with(rt, error, explains, &subject, cut, err),
     }
+}
+
+// From which offset on bytes are cut off the journal at the path, where these are kept. Opening it kept them, and it may
+// have been refused before they were cut off.
+fn cut_off<D: Disk + AllocGlobal>(rt: &D, file: &str, cut: Option<u64>) -> Option<u64>
+    ensures { (result ≡ None) ⊎ (result ≡ cut) }
+{
+    match cut {
+        Some(at) if is_cut(rt, file, at) => Some(at),
+        _ => None,
+    }
+}
+
+/// The exit status of a job that was refused, once that is printed: the refusal, where bytes are kept that are cut off its
+/// journal, and what explains it.
+#[tactic(auto, using(crate::proofs::NoteLaws::noted))]
+pub fn refused_with<D: Disk + AllocGlobal, E: Write>(
+    rt: &D,
+    error: JobError,
+    explains: bool,
+    subject: &Subject<'_>,
+    cut: Option<u64>,
+    err: &mut E,
+) -> u8
+    ensures status { result ≡ REFUSED }
+    ensures reported { (note : List ℕ) × (off : Option ℕ)
+        × ((off ≡ None) ⊎ (off ≡ cut)) × IsNote explains subject.now error note
+        × GrowsPart (IsToldOf note subject.now.file.now off error)
+        (E.contents err.old) (E.contents err.new) }
+{
+    let note = note(rt, explains, subject, &error);
+    let off = cut_off(rt, subject.file, cut);
+    ended_with(rt.alloc(), error, subject.file, off, note_text(&note), err)
 }
 
 // Does a job, and writes what is printed of it. Answers what is reported of it beside that. A session is held as the

@@ -85,12 +85,13 @@ pub fn carry_out<D: Disk + AllocGlobal, I: Read, W: Write>(
         FileJob::Update {
             file,
             source,
+            since,
             time,
             message,
             key,
         } => put_made(
             out,
-            update_text(rt, file, source, input, time, message, key, cut),
+            update_text(rt, file, source, &since, input, time, message, key, cut),
         ),
         FileJob::Import {
             file,
@@ -408,6 +409,7 @@ fn check_file<D: Disk + AllocGlobal, W: Write>(
         e (W.contents out.new)) }
     ensures said { IfErr result IsAllSaid }
 {
+    rt.check_journal(file)?;
     let bytes = rt.read(file)?;
     let (text, fault) = check_report(rt.alloc(), &bytes)?;
     match put(out, Ok(text)) {
@@ -424,6 +426,7 @@ fn recover_to<D: Disk + AllocGlobal>(rt: &D, file: &str, out: &str) -> Result<St
     ensures { IfOk result (λ l. OfFile (D.saw rt.now) file.now
         (λ bytes. RescuesTo (D.saw rt.now) out.now bytes (string_bytes l))) }
 {
+    rt.check_journal(file)?;
     let (journal, text) = rescue_report(rt.alloc(), &rt.read(file)?)?;
     put_new(rt, out, file, &journal)?;
     Ok(text)

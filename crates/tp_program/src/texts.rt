@@ -12,7 +12,7 @@ ghost use Rattle.tp_report.specs.Names.{output_of_made};
 
 use std::alloc::Global;
 use std::io::Read;
-use tp_commands::{CommandError, begin, import, made_lines, text_in_file, update};
+use tp_commands::{CommandError, Metadata, begin, import, made_lines, text_in_file, update};
 use tp_disk::{Disk, Opened, draw, draw_actor, generator};
 use tp_opid::{Actor, DocId, Hash};
 use tp_peer::PeerError;
@@ -34,11 +34,13 @@ pub(crate) fn read_input<D: Disk + AllocGlobal, I: Read>(
     Ok(bytes)
 }
 
-/// Makes the text of the journal at a path that of a file. The lines of the changes that were made.
+/// Makes the text of the journal at a path that of a file: the text at the heads, where any are given, beside what came
+/// since. The lines of the changes that were made.
 pub(crate) fn update_text<D: Disk + AllocGlobal, I: Read>(
     rt: &D,
     file: &str,
     source: &str,
+    since: &[Hash],
     input: &mut I,
     time: u64,
     message: &str,
@@ -51,7 +53,7 @@ pub(crate) fn update_text<D: Disk + AllocGlobal, I: Read>(
         (MayCutFile (D.saw rt.now) file.now cut.new) }
     ensures lines { IfOk result (λ p. OfGiven (D.saw rt.now) source.now
         (λ bytes. ChangesFile (D.saw rt.now) file.now
-        (λ before after. AreUpdateLines key (chars bytes) time (chars message.now) before after
+        (λ before after. AreUpdateLines key since.now (chars bytes) time (chars message.now) before after
         (string_bytes p.0)))) }
     ensures made { IfOk result
         (λ p. IfSome p.1 (λ made. string_bytes p.0 ≡ output_of_made made)) }
@@ -67,7 +69,12 @@ pub(crate) fn update_text<D: Disk + AllocGlobal, I: Read>(
     } = rt.journal(file)?;
     *cut = kept;
     let opened = (journal, Ok(recovered));
-    let (mut journal, hashes) = update(rt.alloc(), opened, actor, text, time, message)?;
+    let by = Metadata {
+        actor,
+        time,
+        message,
+    };
+    let (mut journal, hashes) = update(rt.alloc(), opened, since, text, &by)?;
     rt.leave(file, &mut journal)?;
     made_texts(rt.alloc(), hashes)
 }

@@ -1,6 +1,7 @@
 //! What is printed for a person below a refusal: what it means for a file, what was kept, and what to do.
 
 use tp_commands::CommandError;
+use tp_disk::Cause;
 use tp_document::DocError;
 use tp_peer::PeerError;
 use tp_store::StoreError;
@@ -8,6 +9,53 @@ use tp_sync::SyncError;
 
 // Wherever memory was refused.
 const NO_MEMORY: &str = "memory ran out; what was on the disk before is there";
+
+/// What is said of a journal that was moved or removed under whoever had it open.
+pub(crate) const GONE: &str =
+    "it was moved or removed while it was open. Put it back, or begin with a copy of another journal of the document";
+
+/// What is said of a journal that can be read and written, where something else failed.
+pub(crate) const NO_OUTPUT: &str =
+    "it can be read; what failed is writing it, or the standard output";
+
+/// What is said of a journal that can be read alone.
+pub(crate) const NOT_WRITTEN: &str =
+    "it can be read, but may not be written; or the standard output failed";
+
+/// What is said of a session over the standard input and output.
+pub(crate) const OTHER_SIDE: &str =
+    "the other side ended before the session did, or what leads to it failed";
+
+/// What is said of a saved file that is a journal.
+pub(crate) const NO_SAVED_FILE: &str =
+    "it is a journal, and no saved file: each command takes it as it is, and cp copies it";
+
+/// What is said of a saved file that is something else.
+pub(crate) const NO_FILE_OF_OURS: &str =
+    "it doesn't begin as a saved file does: textpeer save writes one";
+
+/// Why a file can't be used, as it goes on after its path and a colon.
+pub(crate) fn of_cause(cause: Cause) -> &'static str {
+    match cause {
+        Cause::NotThere => "there is no such file",
+        Cause::Folder => "it is no file, but a folder",
+        Cause::NoFile => "it is no regular file, but a pipe or the like",
+        Cause::NoFolder => "a part of its path is no folder",
+        Cause::TooLong => "a name in its path is too long",
+        Cause::Closed => "its folder may not be entered",
+        Cause::NotRead => "it may not be opened",
+        Cause::NotWritten => "it can be read, but it may not be written",
+        Cause::Unknown => "the system doesn't find it",
+    }
+}
+
+/// Why a journal can't be used, likewise.
+pub(crate) fn of_journal(cause: Cause) -> &'static str {
+    match cause {
+        Cause::NotThere => "there is no such file: textpeer new makes a journal",
+        cause => of_cause(cause),
+    }
+}
 
 /// A sentence on the refusal, as it goes on after the path of the file that it is about and a colon.
 pub(crate) fn advice(error: CommandError) -> &'static str {
@@ -31,7 +79,7 @@ fn of_peer(error: PeerError) -> &'static str {
             "it has changes under the actor that the key gives: give another --key, or none"
         }
         PeerError::JournalFailed => {
-            "it can't be written, or not brought to the disk, which may be full; what was there before is kept"
+            "it can't be written or brought to the disk, as where that is full, or it isn't what was opened any more, but cut or replaced. Of what was under way nothing, a part or all is in it. Make room, or put it back, and begin again"
         }
         PeerError::Stopped => "its journal failed before, and it takes nothing more",
         PeerError::TooManyLinks => "it has 1,024 links already",
@@ -78,7 +126,7 @@ fn of_message(error: SyncError) -> &'static str {
 fn of_bytes(error: StoreError) -> &'static str {
     match error {
         StoreError::BadMagic => {
-            "it doesn't begin as it is to: a saved file is brought in by textpeer load"
+            "it doesn't begin as a journal does: of a saved file textpeer load makes one"
         }
         StoreError::Truncated => "a saved file that was cut short: its end is missing",
         StoreError::BadDigest => "a saved file that was changed: it hasn't the digest at its end",

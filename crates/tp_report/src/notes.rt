@@ -5,12 +5,15 @@ ghost use Rattle.std.specs.String.{string_bytes};
 ghost use Rattle.tp_report.specs.Notes.{IsNote, IsNoteOf, names_file as is_file_named, no_memory_note, path_at_fault as path_of_fault, fault_place as text_of_fault_place};
 ghost use Rattle.tp_list.specs.Bytes.{line};
 
-use crate::advice::advice;
+use crate::advice::{
+    GONE, NO_FILE_OF_OURS, NO_OUTPUT, NO_SAVED_FILE, NOT_WRITTEN, OTHER_SIDE, advice, of_cause,
+    of_journal,
+};
 use crate::error::JobError;
 use std::alloc::{AllocError, Global};
 use tp_command_line::{Beside, Hosting, Subject};
 use tp_commands::{CommandError, Lock};
-use tp_disk::Disk;
+use tp_disk::{Cause, Disk, begins_journal};
 use tp_document::DocError;
 use tp_net::Unreached;
 use tp_peer::PeerError;
@@ -28,10 +31,14 @@ fn path_at_fault<'a>(subject: &Subject<'a>, error: &JobError) -> &'a str
             Beside::Read(other),
             JobError::Command(CommandError::Peer(PeerError::Doc(DocError::OtherDocument))),
         ) => other,
-        (Beside::Read(other), JobError::Command(CommandError::NotText { .. })) => other,
+        (Beside::Text(source), JobError::Command(CommandError::NotText { .. })) => source,
         (Beside::Made(out), JobError::Command(CommandError::Peer(PeerError::JournalNotEmpty))) => {
             out
         }
+        (
+            Beside::Loaded(journal),
+            JobError::Command(CommandError::Peer(PeerError::JournalNotEmpty)),
+        ) => journal,
         _ => subject.file,
     }
 }
@@ -92,30 +99,92 @@ fn script_advice<D: Disk + AllocGlobal>(
     }
 }
 
-// What the system says of the files, where one of them can't be opened.
+// A line of the path and what is said of it.
+fn of_path(alloc: Global, path: &str, text: &str) -> Result<String, AllocError> {
+    format!(in alloc; "{path}: {text}")
+}
+
+// What the system says of the files, where one of them can't be opened or something else failed outside.
 fn system_advice<D: Disk + AllocGlobal>(
     rt: &D,
     subject: &Subject<'_>,
 ) -> Result<String, AllocError> {
+    let alloc = rt.alloc();
     let file = subject.file;
-    match (rt.cause(file), subject.beside) {
-        (_, Beside::Made(made)) if made == file => made_advice(rt.alloc(), made),
-        (Some(cause), _) => format!(in rt.alloc(); "{file}: {cause}"),
-        (None, Beside::Made(made)) => made_advice(rt.alloc(), made),
-        (None, Beside::Read(other)) => match rt.cause(other) {
-            Some(cause) => format!(in rt.alloc(); "{other}: {cause}"),
-            None => written_advice(rt.alloc(), file),
+    match subject.beside {
+        Beside::Made(made) if made == file => made_advice(rt, made),
+        Beside::Text(source) => text_advice(rt, file, source),
+        Beside::Loaded(_) | Beside::NoJournal => match (rt.cause(file), subject.beside) {
+            (Some(cause), _) => of_path(alloc, file, of_cause(cause)),
+            (None, Beside::Loaded(made)) => made_advice(rt, made),
+            (None, _) => of_path(alloc, file, NO_OUTPUT),
         },
-        (None, Beside::There(addr)) => format!(in rt.alloc();
-            "{addr}: the session was broken off, or {file} can't be written"
-        ),
-        (None, Beside::Page(hosting)) => {
-            let page = hosting.page;
-            format!(in rt.alloc();
-                "{page}: it can't be listened on any more, or {file} can't be written"
-            )
-        }
-        (None, Beside::Nothing) => written_advice(rt.alloc(), file),
+        beside => match rt.cause(file) {
+            Some(cause) => of_path(alloc, file, of_journal(cause)),
+            None => beside_advice(rt, file, beside),
+        },
+    }
+}
+
+// Whether the folder of the file at the path is there.
+fn has_folder<D: Disk>(rt: &D, path: &str) -> bool {
+    match path.rsplit_once('/') {
+        Some(("", _)) | None => true,
+        Some((folder, _)) => rt.cause(folder) == Some(Cause::Folder),
+    }
+}
+
+// What is said of an edit's text, and of the journal that takes it, which `import` may make. The text is read first.
+fn text_advice<D: Disk + AllocGlobal>(
+    rt: &D,
+    file: &str,
+    source: &str,
+) -> Result<String, AllocError> {
+    let alloc = rt.alloc();
+    match (rt.cause(source), rt.write_cause(file)) {
+        (Some(cause), _) if source != "-" => of_path(alloc, source, of_cause(cause)),
+        (_, Some(Cause::NotThere)) if !has_folder(rt, file) => made_advice(rt, file),
+        (_, Some(cause)) => of_path(alloc, file, of_journal(cause)),
+        _ => of_path(alloc, file, NO_OUTPUT),
+    }
+}
+
+// What is said where the journal can be read, of what is beside it or of writing.
+fn beside_advice<D: Disk + AllocGlobal>(
+    rt: &D,
+    file: &str,
+    beside: Beside<'_>,
+) -> Result<String, AllocError> {
+    match beside {
+        Beside::Made(made) => made_advice(rt, made),
+        Beside::Nothing => match rt.write_cause(file) {
+            Some(_) => of_path(rt.alloc(), file, NOT_WRITTEN),
+            None => of_path(rt.alloc(), file, NO_OUTPUT),
+        },
+        beside => match rt.write_cause(file) {
+            Some(cause) => of_path(rt.alloc(), file, of_journal(cause)),
+            None => other_advice(rt, file, beside),
+        },
+    }
+}
+
+// What is said where the journal can be read and written.
+fn other_advice<D: Disk + AllocGlobal>(
+    rt: &D,
+    file: &str,
+    beside: Beside<'_>,
+) -> Result<String, AllocError> {
+    let alloc = rt.alloc();
+    match beside {
+        Beside::Read(other) => match rt.cause(other) {
+            Some(cause) => of_path(alloc, other, of_journal(cause)),
+            None => of_path(alloc, file, NO_OUTPUT),
+        },
+        Beside::Streams => String::from_str(alloc, OTHER_SIDE),
+        Beside::Here(addr) => format!(in alloc; "{addr}: it can't be listened on any more"),
+        Beside::There(addr) => format!(in alloc; "{addr}: the session was broken off"),
+        Beside::Page(hosting) => page_advice(alloc, &hosting, "it can't be listened on any more"),
+        _ => of_path(alloc, file, NO_OUTPUT),
     }
 }
 
@@ -129,14 +198,33 @@ fn busy_advice<D: Disk + AllocGlobal>(rt: &D, file: &str) -> Result<String, Allo
     }
 }
 
-fn made_advice(alloc: Global, made: &str) -> Result<String, AllocError> {
-    format!(in alloc;
-        "{made}: it can't be made: its folder isn't there or may not be written, or the disk is full"
-    )
+// What is said of a file that can't be made.
+fn made_advice<D: Disk + AllocGlobal>(rt: &D, made: &str) -> Result<String, AllocError> {
+    let text = match rt.write_cause(made) {
+        Some(Cause::Folder) => of_cause(Cause::Folder),
+        Some(Cause::NoFolder) => of_cause(Cause::NoFolder),
+        Some(Cause::TooLong) => of_cause(Cause::TooLong),
+        Some(Cause::NotWritten) => "it may not be written",
+        _ => "it can't be made: its folder isn't there or may not be written, or the disk is full",
+    };
+    of_path(rt.alloc(), made, text)
 }
 
-fn written_advice(alloc: Global, file: &str) -> Result<String, AllocError> {
-    format!(in alloc; "{file}: it can be read; what failed is writing it, or the standard output")
+// What is said of a journal that failed while it was open.
+fn failed_advice<D: Disk + AllocGlobal>(rt: &D, file: &str) -> &'static str {
+    match rt.cause(file) {
+        Some(Cause::NotThere) => GONE,
+        _ => advice(CommandError::Peer(PeerError::JournalFailed)),
+    }
+}
+
+// What is said of a file that doesn't begin as it is to.
+fn magic_advice<D: Disk + AllocGlobal>(rt: &D, subject: &Subject<'_>) -> &'static str {
+    match (subject.beside, begins_journal(rt, subject.file)) {
+        (Beside::Loaded(_), Ok(true)) => NO_SAVED_FILE,
+        (Beside::Loaded(_), _) => NO_FILE_OF_OURS,
+        _ => advice(CommandError::Store(StoreError::BadMagic)),
+    }
 }
 
 // The sentence on a refusal.
@@ -148,6 +236,10 @@ fn sentence<D: Disk + AllocGlobal>(
     let text = match error {
         JobError::Command(CommandError::Io) => return system_advice(rt, subject),
         JobError::Command(CommandError::Busy) => return busy_advice(rt, subject.file),
+        JobError::Command(CommandError::Store(StoreError::BadMagic)) => magic_advice(rt, subject),
+        JobError::Command(CommandError::Peer(PeerError::JournalFailed)) => {
+            failed_advice(rt, subject.file)
+        }
         JobError::Command(error) => advice(*error),
         JobError::Line(number) => return script_advice(rt, subject.file, *number),
         JobError::Show(_) => "each change has to be whole, and to follow the one before it",
@@ -196,7 +288,7 @@ fn unreached_advice(
         Unreached::Other => "there is no way there",
     };
     match subject.beside {
-        Beside::There(addr) => format!(in alloc; "{addr}: {text}"),
+        Beside::Here(addr) | Beside::There(addr) => format!(in alloc; "{addr}: {text}"),
         Beside::Page(hosting) => page_advice(alloc, &hosting, text),
         _ => String::from_str(alloc, text),
     }

@@ -84,6 +84,11 @@ impl<W: Write> Write for Shown<W> {
             self.is_led = false;
             return Ok(1);
         }
+        if self.is_led && (0xa0..=0xbf).contains(&first) {
+            self.writer.write_all(&[LEAD, first])?;
+            self.is_led = false;
+            return Ok(1);
+        }
         if self.is_led {
             self.writer.write_all(&[LEAD])?;
             self.is_led = false;

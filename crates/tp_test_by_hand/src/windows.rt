@@ -17,14 +17,18 @@ fn empty_peer(alloc: Global) -> Option<Peer<MemJournal>> {
 // Whether a window is answered this, and whether it is the last.
 fn answers_so(
     alloc: Global,
-    window: Window,
+    window: &mut Window,
     peer: &mut Peer<MemJournal>,
     request: &str,
     answer: &str,
     is_last: bool,
 ) -> Result<bool, AllocError> {
     let said = window.answer(alloc, peer, 5, request)?;
-    Ok(said.text.as_str() == answer && said.is_last == is_last)
+    let is_so = said.text.as_str() == answer && said.refusal.is_some() == is_last;
+    if let Some(heads) = said.heads {
+        window.remember(heads)?;
+    }
+    Ok(is_so)
 }
 
 // Two windows write at the beginning of the empty text, each before it hears of the other: the character of the greater actor
@@ -33,61 +37,62 @@ fn answers_so(
 fn two_write_at_once(rt: HostRuntime) -> Result<(), Fail> {
     let alloc = rt.alloc();
     let mut peer = empty_peer(alloc).ok_or("a peer")?;
-    let (one, two) = (Window::new(Actor([2; 16])), Window::new(Actor([3; 16])));
+    let mut one = Window::new(alloc, Actor([2; 16]));
+    let mut two = Window::new(alloc, Actor([3; 16]));
     assert!(rt;
         answers_so(
             alloc,
-            one,
+            &mut one,
             &mut peer,
             r#"{"open":{}}"#,
-            r#"{"opened":{"document":"07070707070707070707070707070707","actor":"02020202020202020202020202020202","heads":[],"text":""}}"#,
+            r#"{"opened":{"document":"07070707070707070707070707070707","actor":"02020202020202020202020202020202","number":1,"heads":[],"text":""}}"#,
             false
         )?
     );
     assert!(rt;
         answers_so(
             alloc,
-            one,
+            &mut one,
             &mut peer,
-            r#"{"edit":{"heads":[],"splices":[{"at":0,"del":0,"text":"abc"}]}}"#,
-            r#"{"edited":{"made":"874f9103c285584ed7935bc778760e7dc8d22abb79f4069061e8c8eb15a1ff55","heads":["874f9103c285584ed7935bc778760e7dc8d22abb79f4069061e8c8eb15a1ff55"],"splices":[]}}"#,
+            r#"{"edit":{"on":1,"splices":[{"at":0,"del":0,"text":"abc"}]}}"#,
+            r#"{"edited":{"made":"874f9103c285584ed7935bc778760e7dc8d22abb79f4069061e8c8eb15a1ff55","number":2,"heads":["874f9103c285584ed7935bc778760e7dc8d22abb79f4069061e8c8eb15a1ff55"],"splices":[]}}"#,
             false
         )?
     );
     assert!(rt;
         answers_so(
             alloc,
-            two,
+            &mut two,
             &mut peer,
             r#"{"edit":{"heads":[],"splices":[{"at":0,"del":0,"text":"x"}]}}"#,
-            r#"{"edited":{"made":"76b059c74bf9093b39c007e0af96996f3bcdc9efa37a3cf398b5fc3dc72c1454","heads":["76b059c74bf9093b39c007e0af96996f3bcdc9efa37a3cf398b5fc3dc72c1454","874f9103c285584ed7935bc778760e7dc8d22abb79f4069061e8c8eb15a1ff55"],"splices":[{"at":1,"del":0,"text":"abc"}]}}"#,
+            r#"{"edited":{"made":"76b059c74bf9093b39c007e0af96996f3bcdc9efa37a3cf398b5fc3dc72c1454","number":1,"heads":["76b059c74bf9093b39c007e0af96996f3bcdc9efa37a3cf398b5fc3dc72c1454","874f9103c285584ed7935bc778760e7dc8d22abb79f4069061e8c8eb15a1ff55"],"splices":[{"at":1,"del":0,"text":"abc"}]}}"#,
             false
         )?
     );
     assert!(rt;
         answers_so(
             alloc,
-            one,
+            &mut one,
             &mut peer,
             r#"{"look":{"heads":["874f9103c285584ed7935bc778760e7dc8d22abb79f4069061e8c8eb15a1ff55"]}}"#,
-            r#"{"looked":{"heads":["76b059c74bf9093b39c007e0af96996f3bcdc9efa37a3cf398b5fc3dc72c1454","874f9103c285584ed7935bc778760e7dc8d22abb79f4069061e8c8eb15a1ff55"],"splices":[{"at":0,"del":0,"text":"x"}]}}"#,
+            r#"{"looked":{"number":3,"heads":["76b059c74bf9093b39c007e0af96996f3bcdc9efa37a3cf398b5fc3dc72c1454","874f9103c285584ed7935bc778760e7dc8d22abb79f4069061e8c8eb15a1ff55"],"splices":[{"at":0,"del":0,"text":"x"}]}}"#,
             false
         )?
     );
     assert!(rt;
         answers_so(
             alloc,
-            two,
+            &mut two,
             &mut peer,
             r#"{"look":{"heads":["76b059c74bf9093b39c007e0af96996f3bcdc9efa37a3cf398b5fc3dc72c1454","874f9103c285584ed7935bc778760e7dc8d22abb79f4069061e8c8eb15a1ff55"]}}"#,
-            r#"{"looked":{"heads":["76b059c74bf9093b39c007e0af96996f3bcdc9efa37a3cf398b5fc3dc72c1454","874f9103c285584ed7935bc778760e7dc8d22abb79f4069061e8c8eb15a1ff55"],"splices":[]}}"#,
+            r#"{"looked":{"number":2,"heads":["76b059c74bf9093b39c007e0af96996f3bcdc9efa37a3cf398b5fc3dc72c1454","874f9103c285584ed7935bc778760e7dc8d22abb79f4069061e8c8eb15a1ff55"],"splices":[]}}"#,
             false
         )?
     );
     assert!(rt;
         answers_so(
             alloc,
-            two,
+            &mut two,
             &mut peer,
             r#"{"resume":{"actor":"02020202020202020202020202020202","heads":[]}}"#,
             r#"{"resumed":{"actor":"03030303030303030303030303030303","made":"874f9103c285584ed7935bc778760e7dc8d22abb79f4069061e8c8eb15a1ff55"}}"#,
@@ -97,7 +102,7 @@ fn two_write_at_once(rt: HostRuntime) -> Result<(), Fail> {
     assert!(rt;
         answers_so(
             alloc,
-            two,
+            &mut two,
             &mut peer,
             r#"{"resume":{"actor":"02020202020202020202020202020202","heads":["874f9103c285584ed7935bc778760e7dc8d22abb79f4069061e8c8eb15a1ff55"]}}"#,
             r#"{"resumed":{"actor":"03030303030303030303030303030303","made":null}}"#,
@@ -107,7 +112,17 @@ fn two_write_at_once(rt: HostRuntime) -> Result<(), Fail> {
     assert!(rt;
         answers_so(
             alloc,
-            one,
+            &mut one,
+            &mut peer,
+            r#"{"look":{"on":2}}"#,
+            r#"{"looked":{"number":4,"heads":["76b059c74bf9093b39c007e0af96996f3bcdc9efa37a3cf398b5fc3dc72c1454","874f9103c285584ed7935bc778760e7dc8d22abb79f4069061e8c8eb15a1ff55"],"splices":[{"at":0,"del":0,"text":"x"}]}}"#,
+            false
+        )?
+    );
+    assert!(rt;
+        answers_so(
+            alloc,
+            &mut one,
             &mut peer,
             r#"{"changes":{"from":1,"most":9}}"#,
             r#"{"changes":{"count":2,"changes":[{"hash":"76b059c74bf9093b39c007e0af96996f3bcdc9efa37a3cf398b5fc3dc72c1454","actor":"03030303030303030303030303030303","time":5,"message":"","deps":[]}]}}"#,
@@ -117,7 +132,7 @@ fn two_write_at_once(rt: HostRuntime) -> Result<(), Fail> {
     assert!(rt;
         answers_so(
             alloc,
-            one,
+            &mut one,
             &mut peer,
             r#"{"change":{"hash":"874f9103c285584ed7935bc778760e7dc8d22abb79f4069061e8c8eb15a1ff55"}}"#,
             r#"{"change":{"text":"","splices":[{"at":0,"del":0,"text":"abc"}]}}"#,
@@ -132,18 +147,20 @@ fn two_write_at_once(rt: HostRuntime) -> Result<(), Fail> {
 fn a_wrong_request_ends_a_window(rt: HostRuntime) -> Result<(), Fail> {
     let alloc = rt.alloc();
     let mut peer = empty_peer(alloc).ok_or("a peer")?;
-    let one = Window::new(Actor([2; 16]));
+    let mut one = Window::new(alloc, Actor([2; 16]));
     for request in [
         "",
         "{}",
         r#"{"open":{"x":1}}"#,
         r#"{"look":{"heads":["00"]}}"#,
+        r#"{"look":{}}"#,
+        r#"{"look":{"heads":[],"on":1}}"#,
         r#"{"edit":{"heads":[],"splices":[{"at":-1,"del":0,"text":"x"}]}}"#,
     ] {
         assert!(rt;
             answers_so(
                 alloc,
-                one,
+                &mut one,
                 &mut peer,
                 request,
                 r#"{"refused":{"reason":"BadRequest"}}"#,
@@ -154,7 +171,7 @@ fn a_wrong_request_ends_a_window(rt: HostRuntime) -> Result<(), Fail> {
     assert!(rt;
         answers_so(
             alloc,
-            one,
+            &mut one,
             &mut peer,
             r#"{"look":{"heads":["874f9103c285584ed7935bc778760e7dc8d22abb79f4069061e8c8eb15a1ff55"]}}"#,
             r#"{"refused":{"reason":"UnknownHead"}}"#,
@@ -164,7 +181,7 @@ fn a_wrong_request_ends_a_window(rt: HostRuntime) -> Result<(), Fail> {
     assert!(rt;
         answers_so(
             alloc,
-            one,
+            &mut one,
             &mut peer,
             r#"{"change":{"hash":"874f9103c285584ed7935bc778760e7dc8d22abb79f4069061e8c8eb15a1ff55"}}"#,
             r#"{"refused":{"reason":"UnknownHead"}}"#,
@@ -174,7 +191,17 @@ fn a_wrong_request_ends_a_window(rt: HostRuntime) -> Result<(), Fail> {
     assert!(rt;
         answers_so(
             alloc,
-            one,
+            &mut one,
+            &mut peer,
+            r#"{"look":{"on":1}}"#,
+            r#"{"refused":{"reason":"Forgotten"}}"#,
+            true
+        )?
+    );
+    assert!(rt;
+        answers_so(
+            alloc,
+            &mut one,
             &mut peer,
             r#"{"edit":{"heads":[],"splices":[{"at":1,"del":0,"text":"x"}]}}"#,
             r#"{"refused":{"reason":"OutOfRange"}}"#,

@@ -10,6 +10,7 @@ use std::fs::{Metadata, OpenOptions};
 use std::io;
 use std::path::PathBuf;
 use std::rt::Files;
+use std::time::{Clock, Duration};
 
 /// A runtime over another one, which has the files.
 #[derive(Drop)]
@@ -44,6 +45,17 @@ impl<R: AllocGlobal> Alloc for Host<'_, R> {
 
     fn alloc(&self) -> Global {
         self.rt.alloc()
+    }
+}
+
+// A clock that is always at its beginning, and on which nobody waits.
+impl<R> Clock for Host<'_, R> {
+    fn monotonic(&self) -> io::Result<Duration> {
+        Ok(Duration::from_secs(0))
+    }
+
+    fn since_1970(&self) -> io::Result<Duration> {
+        Ok(Duration::from_secs(0))
     }
 }
 

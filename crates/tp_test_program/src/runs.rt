@@ -13,12 +13,13 @@ use crate::world::World;
 use std::fs::File;
 use std::io::ErrorKind;
 use std::rt::Files;
+use std::time::Clock;
 use std::{fs, io};
-use tp_command_line::{Job, line};
+use tp_command_line::{Job, line, words_asked};
 use tp_commands::CommandError;
 use tp_journal::Lockable;
-use tp_program::{Errors, carry_out, explain, without_explain};
-use tp_report::{DONE, JobError, ended_with, note, note_text, report};
+use tp_program::{Errors, carry_out, explain, refused_with};
+use tp_report::{DONE, JobError, exit_status, report};
 use tp_test_runner::{Fault, Words, number};
 
 // A command whose device fails later than this succeeds first.
@@ -52,7 +53,7 @@ fn limits_of(words: &mut Words) -> Result<Limits, Fault> {
 }
 
 // Does a job that needs no network; one that needs it is refused as `Io`.
-fn run_job<R: Files + Print + AllocGlobal>(
+fn run_job<R: Files + Clock + Print + AllocGlobal>(
     rt: &R,
     job: Job,
     input: &mut &[u8],
@@ -69,7 +70,7 @@ where
 }
 
 // The program, as far as it needs no network, with what the standard input gives: the exit status.
-fn run_program<R: Files + Print + Eprint + AllocGlobal>(
+fn run_program<R: Files + Clock + Print + Eprint + AllocGlobal>(
     rt: &R,
     words: &[String],
     input: &[u8],
@@ -79,8 +80,12 @@ where
 {
     let errors = Errors { rt };
     let mut err = io::writer(&errors);
-    let (explains, words) = without_explain(words);
-    match line(rt.alloc(), words) {
+    let asked = match words_asked(rt.alloc(), words) {
+        Ok(asked) => asked,
+        Err(error) => return exit_status(rt.alloc(), Err(JobError::from(error)), &mut err),
+    };
+    let explains = asked.explains;
+    match line(rt.alloc(), &asked.words) {
         Ok(job) => {
             let subject = job.subject();
             let mut cut = None;
@@ -90,17 +95,7 @@ where
                     report(rt.alloc(), subject.file, cut, None, &mut err);
                     DONE
                 }
-                Err(error) => {
-                    let note = note(rt, explains, &subject, &error);
-                    ended_with(
-                        rt.alloc(),
-                        error,
-                        subject.file,
-                        cut,
-                        note_text(&note),
-                        &mut err,
-                    )
-                }
+                Err(error) => refused_with(rt, error, explains, &subject, cut, &mut err),
             }
         }
         Err(fault) => explain(rt.alloc(), &fault, explains, &mut io::writer(rt), &mut err),

@@ -1,3 +1,4 @@
+pub mod Greetings
 pub mod Sites
 pub mod Upgrades
 pub mod Visiting

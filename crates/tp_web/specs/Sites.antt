@@ -1,8 +1,6 @@
 -- Which requests a site answers, and what each is for.
 use Rattle.std.specs.Prelude.{◌≡◌, ◌⊎◌, ℕ, ◌≤◌, Bool, ◌&&◌, ◌||◌, not, List, [], ◌∷◌, ◌++◌, length, map, bytes_eq, codes, nat_eq, if◌then◌else◌}
-use Rattle.std.specs.Fmt.{decimal}
 use Rattle.std.specs.List.{list_all, list_any, starts_with}
-use Rattle.std.specs.Net.Socket.{socket_port}
 use Rattle.std.specs.Net.Text.{socket_text}
 use Rattle.std.specs.Str.{str_eq_ignore_ascii_case}
 use Rattle.std.specs.String.{string_bytes}
@@ -16,13 +14,13 @@ use Rattle.tp_web.specs.declared.site.Site.{Site}
 use Rattle.tp_web.specs.declared.site.Wanted.{Wanted}
 use Rattle.tp_web.specs.declared.site.Wanted.TheVariants.{Foreign, Nothing, Part, Window}
 
--- the hosts under which the page at an address is asked for
+-- the host under which the page at an address is asked for
 abbrev pub hosts_at : SocketAddr → List (List ℕ)
-hosts_at addr = socket_text addr ∷ (codes "localhost:" ++ decimal (socket_port addr)) ∷ []
+hosts_at addr = socket_text addr ∷ []
 
--- the origins of the page at an address
+-- the origin of the page at an address
 abbrev pub origins_at : SocketAddr → List (List ℕ)
-origins_at addr = (codes "http://" ++ socket_text addr) ∷ (codes "http://localhost:" ++ decimal (socket_port addr)) ∷ []
+origins_at addr = (codes "http://" ++ socket_text addr) ∷ []
 
 -- the hosts of a site
 abbrev pub site_hosts : Site → List (List ℕ)

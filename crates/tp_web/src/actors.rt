@@ -3,6 +3,7 @@
 use crate::head::earlier_actor;
 use rand_chacha::ChaCha20Rng;
 use rand_core::SeedableRng;
+use std::alloc::Global;
 use tp_opid::Actor;
 use tp_peer::fresh_actor;
 use tp_window::Window;
@@ -41,10 +42,10 @@ impl Actors {
     /// The window that the request asks for, whose head the bytes begin with: of an actor of its own, or of the earlier one that
     /// its page names. So an edit that came twice, on a connection that was cut off and on the next, is made once: an actor makes
     /// no second change on the same heads.
-    pub(crate) fn window(&self, request: &[u8]) -> Window {
+    pub(crate) fn window(&self, alloc: Global, request: &[u8]) -> Window {
         match earlier_actor(request) {
-            Some(actor) if self.has_earlier(&actor) => Window::new(actor),
-            _ => Window::new(self.at(self.number)),
+            Some(actor) if self.has_earlier(&actor) => Window::new(alloc, actor),
+            _ => Window::new(alloc, self.at(self.number)),
         }
     }
 }

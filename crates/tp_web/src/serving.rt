@@ -12,7 +12,7 @@ use crate::responding::send_busy;
 use crate::site::Site;
 use crate::timed::Timed;
 use crate::visiting::receive;
-use crate::windowing::begin;
+use crate::windowing::{Candidate, begin};
 use crossbeam_channel::{Receiver, Sender};
 use std::alloc::Global;
 use std::io::{Read, Write};
@@ -63,6 +63,16 @@ struct Door<'a, L> {
     connections: u64,
     visits: Limit,
     windows: Limit,
+}
+
+// What the workers share: the page's site, how many windows may be open, the connections that ask for one, and the key from which
+// the windows' actors are drawn.
+#[derive(Drop)]
+struct Work<'a, S> {
+    site: &'a Site,
+    limit: &'a Limit,
+    windows: Receiver<Asking<S>>,
+    key: [u8; 32],
 }
 
 // Says to a connection that there are too many, and ends it.
@@ -176,14 +186,30 @@ fn read_all<R: Threads + Wait + Clock + Sync, S: Read + Write + OpenStream + Sen
     );
 }
 
+// The window that a request asks for on the connection with the number, and what its page has to know. Its actor is drawn from the
+// key.
+fn candidate_of(
+    alloc: Global,
+    site: &Site,
+    key: [u8; 32],
+    number: u64,
+    request: Vec<u8>,
+) -> Candidate {
+    let secret = site.secret();
+    Candidate {
+        window: Actors { key, number }.window(alloc, &request),
+        request,
+        key: secret.key,
+        challenge: secret.challenge(number),
+    }
+}
+
 // A worker: it shows one window after another, until no more come.
 #[tactic(auto, using(crate::proofs::Attending::stays, crate::proofs::Attending::joins))]
-fn work<R: Wait + Clock, S: Read + Write + OpenStream + Drop, J: Journal>(
+fn work<R: Wait + Clock + Eprint, S: Read + Write + OpenStream + Drop, J: Journal>(
     rt: &R,
     alloc: Global,
-    limit: &Limit,
-    windows: &Receiver<Asking<S>>,
-    key: [u8; 32],
+    shared: &Work<'_, S>,
     served: &Served<J>,
     seat: &mut Seat,
 )
@@ -197,31 +223,23 @@ fn work<R: Wait + Clock, S: Read + Write + OpenStream + Drop, J: Journal>(
                 stream,
                 request,
             },
-        ) = windows.recv(rt)
+        ) = shared.windows.recv(rt)
         else {
             break;
         };
         let stream = Timed::new(rt, stream, None, QUIET);
-        let window = Actors { key, number }.window(&request);
-        begin(rt, alloc, stream, &request, window, served, seat);
-        limit.leave(rt);
+        let candidate = candidate_of(alloc, shared.site, shared.key, number, request);
+        begin(rt, alloc, stream, candidate, served, seat);
+        shared.limit.leave(rt);
     }
 }
 
 // One worker for each seat, side by side. The seats come back.
 fn work_on_all<
-    R: Threads + Wait + Clock + Sync,
+    R: Threads + Wait + Clock + Eprint + Sync,
     S: Read + Write + OpenStream + Send + Drop,
     J: Journal + Send,
->(
-    rt: &R,
-    alloc: Global,
-    limit: &Limit,
-    windows: Receiver<Asking<S>>,
-    key: [u8; 32],
-    served: &Served<J>,
-    seats: Vec<Seat>,
-) -> Vec<Seat>
+>(rt: &R, alloc: Global, shared: Work<'_, S>, served: &Served<J>, seats: Vec<Seat>) -> Vec<Seat>
     requires { AreOf served.now.served seats.items }
     ensures { AllAttend seats.items result.items }
 {
@@ -234,7 +252,7 @@ fn work_on_all<
         &|_, seat: &mut Seat|
             requires { seat.old.served ≡ served.now.served }
             ensures { Attends seat.old seat.new }
-        { work(rt, alloc, limit, &windows, key, served, seat) },
+        { work(rt, alloc, &shared, served, seat) },
     );
     seats
 }
@@ -277,7 +295,7 @@ fn welcome<
 /// Contracts see of each seat the turns that led it on; in each turn the peer stayed or made one edit. How many there
 /// were they don't say, nor anything of what goes over the sockets.
 pub fn serve_windows<
-    R: Threads + Wait + Clock + Sync,
+    R: Threads + Wait + Clock + Eprint + Sync,
     S: Read + Write + OpenStream + Send + Drop,
     L: OpenListener<Stream = S> + Sync,
     J: Journal + Send,
@@ -314,13 +332,18 @@ pub fn serve_windows<
         windows: Limit::new(seats.len() as u64),
     };
     let open = &door;
-    let limit = &door.windows;
+    let shared = Work {
+        site,
+        limit: &door.windows,
+        windows: waiting,
+        key,
+    };
     let (seats, accepted) = thread::join(
         rt,
         move ||
             requires { AreOf served.now.served seats.items }
             ensures { AllAttend seats.items result.items }
-        { work_on_all(rt, alloc, limit, waiting, key, served, seats) },
+        { work_on_all(rt, alloc, shared, served, seats) },
         move || welcome(rt, alloc, open, workers),
     );
     match accepted {

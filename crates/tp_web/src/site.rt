@@ -5,16 +5,19 @@ ghost use Rattle.httparse.specs.Borrowed.{header_parts};
 ghost use Rattle.std.specs.String.{string_bytes};
 ghost use Rattle.tp_web.specs.Sites.{fields_are_among, has_field, hosts_at, is_field_named, is_text_among, is_window_path, origins_at, site_hosts, site_origins, wanted_of};
 
+use crate::secret::Secret;
 use httparse::Header;
 use std::alloc::{AllocError, Global};
 use std::net::SocketAddr;
 
-/// Where the page is: under which names of a host it is asked for, and from which origins its windows come. Others are
-/// refused, so that a page of another site can't read or write here, whatever name it gives this machine.
+/// Where the page is: under which name of a host it is asked for, and from which origin its windows come. Others are
+/// refused, so that a page of another site can't read or write here, whatever name it gives this machine. And what its
+/// windows have to know.
 #[derive(Drop)]
 pub struct Site {
     hosts: Vec<String>,
     origins: Vec<String>,
+    secret: Secret,
 }
 
 /// What a request is for.
@@ -74,21 +77,27 @@ fn is_window(path: &str) -> bool
 }
 
 impl Site {
-    /// The page at this address, which is also called `localhost`.
-    pub fn at(alloc: Global, addr: SocketAddr) -> Result<Site, AllocError>
-        ensures { IfOk result (λ site. (site_hosts site ≡ hosts_at addr)
+    /// The page at this address, which has no other name: whoever serves a page by another, as `localhost`, would read the key
+    /// there.
+    pub fn at(alloc: Global, addr: SocketAddr, secret: Secret) -> Result<Site, AllocError>
+        ensures named { IfOk result (λ site. (site_hosts site ≡ hosts_at addr)
             × (site_origins site ≡ origins_at addr)) }
+        ensures keyed { IfOk result (λ site. site.secret ≡ secret) }
     {
-        let port = addr.port();
-        let hosts = vec![in alloc;
-            format!(in alloc; "{addr}")?,
-            format!(in alloc; "localhost:{port}")?,
-        ]?;
-        let origins = vec![in alloc;
-            format!(in alloc; "http://{addr}")?,
-            format!(in alloc; "http://localhost:{port}")?,
-        ]?;
-        Ok(Site { hosts, origins })
+        let hosts = vec![in alloc; format!(in alloc; "{addr}")?]?;
+        let origins = vec![in alloc; format!(in alloc; "http://{addr}")?]?;
+        Ok(Site {
+            hosts,
+            origins,
+            secret,
+        })
+    }
+
+    /// What its windows have to know.
+    pub(crate) fn secret(&self) -> Secret
+        ensures { result ≡ self.now.secret }
+    {
+        self.secret
     }
 
     /// What the request with this method, path and fields is for. Only one that names the site as its host is for the page or

@@ -4,6 +4,7 @@ ghost use Rattle.std.specs.Prelude.{◌≡◌};
 ghost use Rattle.tp_web.specs.Visiting.{Attends};
 ghost use Rattle.tp_window.specs.Windows.{MayEdit};
 
+use crate::greeting::{Welcome, greet};
 use crate::head::accept;
 use crate::living::{QUIET, next_message};
 use crate::responding::send_nothing;
@@ -40,9 +41,29 @@ fn now<R: Clock>(rt: &R) -> u64 {
 #[derive(Drop)]
 struct Asked<'a> {
     alloc: Global,
-    window: Window,
+    window: &'a Window,
     time: u64,
     request: &'a str,
+}
+
+/// A window that is asked for, the bytes that begin with its request, and what its page has to know.
+#[derive(Drop)]
+pub(crate) struct Candidate {
+    /// The window, should its page be admitted.
+    pub window: Window,
+    /// The request.
+    pub request: Vec<u8>,
+    /// The page's key.
+    pub key: [u8; 16],
+    /// The program's challenge.
+    pub challenge: [u8; 16],
+}
+
+// A window whose page has shown that it knows the key.
+#[derive(Drop)]
+struct Admitted {
+    window: Window,
+    welcome: Welcome,
 }
 
 impl<J: Journal> Visitor<J> for Asked<'_> {
@@ -51,21 +72,21 @@ impl<J: Journal> Visitor<J> for Asked<'_> {
 
     type Answer = Result<Said, AllocError>;
 
-    ghost does = { λ asked p p'. MayEdit asked.window.actor p p' };
+    ghost does = { λ asked p p'. MayEdit asked.window.now.actor p p' };
 
     fn visit(&self, peer: &mut Peer<J>) -> Result<Said, AllocError> {
         self.window
             .answer(self.alloc, peer, self.time, self.request)
     }
 
-    ghost serves = { λ asked p p' done n. let k = edits_keep asked.window.actor p p' done in record { id = k.1.id; actor = k.1.actor; new = k.1.new; applied = k.1.applied; links = λ m other. k.1.others m refl } };
+    ghost serves = { λ asked p p' done n. let k = edits_keep asked.window.now.actor p p' done in record { id = k.1.id; actor = k.1.actor; new = k.1.new; applied = k.1.applied; links = λ m other. k.1.others m refl } };
 }
 
 // Answers one request on a turn of the seat. `None` where there is no memory for an answer.
 fn answer<R: Wait + Clock, J: Journal>(
     rt: &R,
     alloc: Global,
-    window: Window,
+    window: &Window,
     request: &str,
     served: &Served<J>,
     seat: &mut Seat,
@@ -85,32 +106,50 @@ fn answer<R: Wait + Clock, J: Journal>(
     }
 }
 
-// Sends what is said, and says whether the window goes on.
-fn send<S: Read + Write + Drop>(
+// Sends what is said, and says whether the window goes on. Its heads are kept before: a page may name them by their number. A
+// refusal is written on the standard error too, but for those of a peer that has stopped, which said so when it did.
+fn send<R: Eprint, S: Read + Write + Drop>(
+    rt: &R,
     alloc: Global,
     socket: &mut WebSocket<S, NoMask>,
-    said: &Said,
+    window: &mut Window,
+    said: Said,
 ) -> bool {
-    let Ok(message) = Message::text(alloc, &said.text) else {
+    let Said {
+        text,
+        heads,
+        refusal,
+    } = said;
+    if let Some(heads) = heads {
+        if window.remember(heads).is_err() {
+            return false;
+        }
+    }
+    let Ok(message) = Message::text(alloc, &text) else {
         return false;
     };
     if socket.send(message).is_err() {
         return false;
     }
-    if said.is_last {
-        let _ = socket.close(None);
-        return false;
+    match refusal {
+        Some(refusal) => {
+            if !refusal.is_stopped() {
+                let _ = eprintln!(rt; "window {refusal}");
+            }
+            let _ = socket.close(None);
+            false
+        }
+        None => true,
     }
-    true
 }
 
 // Reads one message, and answers it if it is a request. Whether the window goes on.
 #[tactic(auto, using(crate::proofs::Attending::stays))]
-fn answer_next<R: Wait + Clock, S: Read + Write + OpenStream + Drop, J: Journal>(
+fn answer_next<R: Wait + Clock + Eprint, S: Read + Write + OpenStream + Drop, J: Journal>(
     rt: &R,
     alloc: Global,
     socket: &mut WebSocket<Timed<'_, S, R>, NoMask>,
-    window: Window,
+    window: &mut Window,
     served: &Served<J>,
     seat: &mut Seat,
 ) -> bool
@@ -124,18 +163,18 @@ fn answer_next<R: Wait + Clock, S: Read + Write + OpenStream + Drop, J: Journal>
         return true;
     };
     match answer(rt, alloc, window, request.as_str(), served, seat) {
-        Some(said) => send(alloc, socket, &said),
+        Some(said) => send(rt, alloc, socket, window, said),
         None => false,
     }
 }
 
-// The requests of a window, one after another, until it ends.
+// The requests of a window whose page was admitted, one after another, until it ends.
 #[tactic(auto, using(crate::proofs::Attending::stays, crate::proofs::Attending::joins))]
-fn show<R: Wait + Clock, S: Read + Write + OpenStream + Drop, J: Journal>(
+fn show<R: Wait + Clock + Eprint, S: Read + Write + OpenStream + Drop, J: Journal>(
     rt: &R,
     alloc: Global,
     socket: WebSocket<Timed<'_, S, R>, NoMask>,
-    window: Window,
+    admitted: Admitted,
     served: &Served<J>,
     seat: &mut Seat,
 )
@@ -143,8 +182,12 @@ fn show<R: Wait + Clock, S: Read + Write + OpenStream + Drop, J: Journal>(
     ensures { Attends seat.old seat.new }
 {
     let mut socket = socket;
+    let Admitted {
+        mut window,
+        welcome: _,
+    } = admitted;
     for _ in rt.forever() {
-        if !answer_next(rt, alloc, &mut socket, window, served, seat) {
+        if !answer_next(rt, alloc, &mut socket, &mut window, served, seat) {
             break;
         }
     }
@@ -157,15 +200,14 @@ fn config() -> WebSocketConfig {
         .max_frame_size(Some(MOST_REQUEST))
 }
 
-/// Makes a window of the connection, where its request asks for a WebSocket, and answers its requests until it ends. However it
-/// ends, it ends alone.
+/// Makes a window of the connection, where its request asks for a WebSocket and its page shows that it knows the key, and answers
+/// its requests until it ends. However it ends, it ends alone.
 #[tactic(auto, using(crate::proofs::Attending::stays))]
-pub(crate) fn begin<R: Wait + Clock, S: Read + Write + OpenStream + Drop, J: Journal>(
+pub(crate) fn begin<R: Wait + Clock + Eprint, S: Read + Write + OpenStream + Drop, J: Journal>(
     rt: &R,
     alloc: Global,
     stream: Timed<'_, S, R>,
-    request: &[u8],
-    window: Window,
+    candidate: Candidate,
     served: &Served<J>,
     seat: &mut Seat,
 )
@@ -173,7 +215,13 @@ pub(crate) fn begin<R: Wait + Clock, S: Read + Write + OpenStream + Drop, J: Jou
     ensures { Attends seat.old seat.new }
 {
     let mut stream = stream;
-    let Some(accepted) = accept(alloc, request) else {
+    let Candidate {
+        window,
+        request,
+        key,
+        challenge,
+    } = candidate;
+    let Some(accepted) = accept(alloc, &request) else {
         let _ = send_nothing(alloc, &mut stream);
         return;
     };
@@ -182,7 +230,7 @@ pub(crate) fn begin<R: Wait + Clock, S: Read + Write + OpenStream + Drop, J: Jou
     if stream.write_all(&accepted.response).is_err() {
         return;
     }
-    let socket = WebSocket::from_partially_read(
+    let mut socket = WebSocket::from_partially_read(
         alloc,
         stream,
         NoMask,
@@ -190,5 +238,9 @@ pub(crate) fn begin<R: Wait + Clock, S: Read + Write + OpenStream + Drop, J: Jou
         Role::Server,
         Some(config()),
     );
-    show(rt, alloc, socket, window, served, seat);
+    let Some(welcome) = greet(alloc, &mut socket, &key, &challenge) else {
+        return;
+    };
+    let admitted = Admitted { window, welcome };
+    show(rt, alloc, socket, admitted, served, seat);
 }

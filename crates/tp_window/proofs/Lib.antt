@@ -4,3 +4,6 @@ pub mod KeepLaws
 pub mod ZipLaws
 pub mod TextLaws
 pub mod AnswerLaws
+pub mod NumberLaws
+pub mod MeaningLaws
+pub mod RefusalLaws

@@ -54,6 +54,8 @@ pub enum Answer<'a> {
         document: String,
         /// Under whom the page edits.
         actor: String,
+        /// The number of these heads.
+        number: u64,
         /// The heads at which this is the text.
         heads: Vec<String>,
         /// The text.
@@ -70,6 +72,8 @@ pub enum Answer<'a> {
     Edited {
         /// The hash of its change, if it made one: the page's text with the edit is the text at this hash.
         made: Option<String>,
+        /// The number of these heads.
+        number: u64,
         /// The heads now.
         heads: Vec<String>,
         /// What leads there from the page's text with the edit.
@@ -77,6 +81,8 @@ pub enum Answer<'a> {
     },
     /// What is new.
     Looked {
+        /// The number of these heads.
+        number: u64,
         /// The heads now.
         heads: Vec<String>,
         /// What leads there from the page's text.

@@ -1,6 +1,6 @@
 //! Requests as they come, and answers as they go: JSON.
 
-ghost use Rattle.std.specs.Prelude.{◌≡◌, IfErr, IfOk, OnOk, false};
+ghost use Rattle.std.specs.Prelude.{◌≡◌, IfErr, IfOk, None};
 ghost use Rattle.tp_window.specs.Outcomes.{AnswersRequest, ComesTo, IsTypedEdit, ShowsOutcome};
 ghost use Rattle.tp_window.specs.Refusing.{RefusesRequest};
 ghost use Rattle.tp_window.specs.Requests.{DoesRequest, MayDo, MayEditAs, RefusesEditAs};
@@ -8,14 +8,15 @@ ghost use Rattle.tp_window.specs.Windows.{MayEdit};
 
 use crate::answer::Answer;
 use crate::error::WindowError;
-use crate::outcome::{Outcome, effect_in, made_by, news_since};
-use crate::reading::{hashes_of, request_of, splices_of};
-use crate::request::{Request, TypedSplice};
+use crate::outcome::{Outcome, effect_in, heads_shown, made_by, news_since};
+use crate::reading::{heads_meant, request_of, splices_of};
+use crate::request::{Request, TypedEdit};
 use crate::window::{Edited, Window};
 use crate::writing::{json_of, shown_changes, shown_of, text_if_any, texts_of};
 use std::alloc::{AllocError, Global};
 use tp_document::Document;
 use tp_journal::Journal;
+use tp_opid::Hash;
 use tp_peer::{Peer, PeerSequence};
 
 /// What is said to a page.
@@ -23,28 +24,28 @@ use tp_peer::{Peer, PeerSequence};
 pub struct Said {
     /// The answer.
     pub text: String,
-    /// Whether the window is to be closed.
-    pub is_last: bool,
+    /// The heads that the answer has, where it has any: those to which its number belongs.
+    pub heads: Option<Vec<Hash>>,
+    /// Why the request is refused, where it is: the answer says so, and the window is to be closed.
+    pub refusal: Option<WindowError>,
 }
 
 impl Window {
-    // Makes the edit that was typed, on the heads that the texts are.
+    // Makes the edit that was typed, on the heads that it means.
     fn edit_typed<J: Journal>(
         &self,
         alloc: Global,
         peer: &mut Peer<J>,
-        heads: &[String],
-        splices: &[TypedSplice],
+        edit: &TypedEdit,
         time: u64,
     ) -> Result<Edited, WindowError>
-        ensures edits { MayEditAs self.now.actor heads.now splices.now time peer.old peer.new }
-        ensures edit { IfOk result
-            (IsTypedEdit self.now.actor heads.now splices.now time peer.old peer.new) }
+        ensures edits { MayEditAs self.now edit.now time peer.old peer.new }
+        ensures edit { IfOk result (IsTypedEdit self.now edit.now time peer.old peer.new) }
         ensures refusal { IfErr result
-            (λ e. RefusesEditAs self.now.actor heads.now splices.now time peer.old e peer.new) }
+            (λ e. RefusesEditAs self.now edit.now time peer.old e peer.new) }
     {
-        let heads = hashes_of(alloc, heads)?;
-        let splices = splices_of(alloc, splices)?;
+        let heads = heads_meant(alloc, self.memory(), &edit.heads, edit.on)?;
+        let splices = splices_of(alloc, &edit.splices)?;
         match self.edit(alloc, peer, &heads, &splices, time) {
             Ok(edited) => Ok(edited),
             Err(error) => Err(WindowError::Edit(error)),
@@ -59,11 +60,10 @@ impl Window {
         time: u64,
         request: &Request,
     ) -> Result<Outcome, WindowError>
-        ensures does { DoesRequest self.now.actor request.now time peer.old peer.new }
-        ensures outcome { IfOk result
-            (ComesTo self.now.actor request.now time peer.old peer.new) }
+        ensures does { DoesRequest self.now request.now time peer.old peer.new }
+        ensures outcome { IfOk result (ComesTo self.now request.now time peer.old peer.new) }
         ensures refusal { IfErr result
-            (λ e. RefusesRequest self.now.actor request.now time peer.old e peer.new) }
+            (λ e. RefusesRequest self.now request.now time peer.old e peer.new) }
     {
         match request {
             Request::Open {} => Ok(Outcome::Text(peer.document().text()?)),
@@ -73,12 +73,14 @@ impl Window {
                 actor,
                 heads,
             )?)),
-            Request::Edit { heads, splices } => Ok(Outcome::Edit(self.edit_typed(
-                alloc, peer, heads, splices, time,
+            Request::Edit(edit) => Ok(Outcome::Edit(self.edit_typed(alloc, peer, edit, time)?)),
+            Request::Look { heads, on } => Ok(Outcome::News(news_since(
+                alloc,
+                self.memory(),
+                peer.document(),
+                heads,
+                *on,
             )?)),
-            Request::Look { heads } => {
-                Ok(Outcome::News(news_since(alloc, peer.document(), heads)?))
-            }
             Request::Changes { from, most } => Ok(Outcome::Changes {
                 from: *from,
                 most: *most,
@@ -94,12 +96,13 @@ impl Window {
         document: &Document<PeerSequence>,
         text: &'a String,
     ) -> Result<Answer<'a>, WindowError>
-        ensures { IfOk result (ShowsOutcome self.now.actor document.now.id document.now.applied
+        ensures { IfOk result (ShowsOutcome self.now document.now.id document.now.applied
             (Outcome.Text text.now)) }
     {
         Ok(Answer::Opened {
             document: document.id().to_text(alloc)?,
             actor: self.actor().to_text(alloc)?,
+            number: self.memory().next_number(),
             heads: texts_of(alloc, document.heads())?,
             text: text.as_str(),
         })
@@ -112,7 +115,7 @@ impl Window {
         document: &'a Document<PeerSequence>,
         outcome: &'a Outcome,
     ) -> Result<Answer<'a>, WindowError>
-        ensures { IfOk result (ShowsOutcome self.now.actor document.now.id document.now.applied
+        ensures { IfOk result (ShowsOutcome self.now document.now.id document.now.applied
             outcome.now) }
     {
         match outcome {
@@ -123,10 +126,12 @@ impl Window {
             }),
             Outcome::Edit(edited) => Ok(Answer::Edited {
                 made: text_if_any(alloc, &edited.made)?,
+                number: self.memory().next_number(),
                 heads: texts_of(alloc, &edited.news.heads)?,
                 splices: shown_of(alloc, &edited.news.differences)?,
             }),
             Outcome::News(news) => Ok(Answer::Looked {
+                number: self.memory().next_number(),
                 heads: texts_of(alloc, &news.heads)?,
                 splices: shown_of(alloc, &news.differences)?,
             }),
@@ -144,24 +149,27 @@ impl Window {
         }
     }
 
-    // Reads what is asked, does it, and writes what it comes to.
+    // Reads what is asked, does it, and writes what it comes to. With the text are the heads that it has, if any.
     fn answer_text<J: Journal>(
         &self,
         alloc: Global,
         peer: &mut Peer<J>,
         time: u64,
         request: &str,
-    ) -> Result<String, WindowError>
-        ensures does { MayDo self.now.actor time peer.old peer.new }
-        ensures answered { OnOk result (AnswersRequest self.now.actor time peer.old peer.new) }
+    ) -> Result<(String, Option<Vec<Hash>>), WindowError>
+        ensures does { MayDo self.now time peer.old peer.new }
+        ensures answered { IfOk result (λ said. AnswersRequest self.now time peer.old peer.new said.1) }
     {
         let request = request_of(alloc, request)?;
         let outcome = self.does(alloc, peer, time, &request)?;
-        json_of(alloc, &self.answer_of(alloc, peer.document(), &outcome)?)
+        let text = json_of(alloc, &self.answer_of(alloc, peer.document(), &outcome)?)?;
+        let heads = heads_shown(alloc, peer.document(), outcome)?;
+        Ok((text, heads))
     }
 
     /// Answers a request of the page, which is a JSON text; its edits are made at the time, in seconds after 1970 began. A
-    /// refusal is an answer too, and the last one. The only error is that there is no memory for an answer.
+    /// refusal is an answer too, and the last one. Where the answer has heads, these are given to [`remember`](Window::remember)
+    /// before it is sent: it has the number under which they are kept then. The only error is that there is no memory for an answer.
     pub fn answer<J: Journal>(
         &self,
         alloc: Global,
@@ -170,21 +178,23 @@ impl Window {
         request: &str,
     ) -> Result<Said, AllocError>
         ensures edits { MayEdit self.now.actor peer.old peer.new }
-        ensures does { MayDo self.now.actor time peer.old peer.new }
-        ensures answered { IfOk result (λ said. said.is_last ≡ false
-            → AnswersRequest self.now.actor time peer.old peer.new) }
+        ensures does { MayDo self.now time peer.old peer.new }
+        ensures answered { IfOk result (λ said. said.refusal ≡ None
+            → AnswersRequest self.now time peer.old peer.new said.heads) }
     {
         match self.answer_text(alloc, peer, time, request) {
-            Ok(text) => Ok(Said {
+            Ok((text, heads)) => Ok(Said {
                 text,
-                is_last: false,
+                heads,
+                refusal: None,
             }),
             Err(error) => {
                 let reason = format!(in alloc; "{error}")?;
                 match json_of(alloc, &Answer::Refused { reason }) {
                     Ok(text) => Ok(Said {
                         text,
-                        is_last: true,
+                        heads: None,
+                        refusal: Some(error),
                     }),
                     Err(_) => Err(AllocError),
                 }

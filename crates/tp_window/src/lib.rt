@@ -11,6 +11,7 @@ mod answer;
 mod answering;
 mod error;
 mod laws;
+mod memory;
 mod news;
 mod outcome;
 mod reading;
@@ -21,7 +22,7 @@ mod writing;
 
 pub use answering::Said;
 pub use error::WindowError;
-pub use laws::a_page_follows;
+pub use laws::{a_number_means_its_heads, a_page_follows};
 pub use news::News;
 pub use showing::made_on;
 pub use window::{Edited, Window};

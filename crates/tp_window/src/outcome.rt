@@ -1,12 +1,14 @@
 //! What a request comes to, before it is shown.
 
-ghost use Rattle.std.specs.Prelude.{IfErr, IfOk};
-ghost use Rattle.tp_window.specs.Outcomes.{IsEffectOf, IsMadeBy, IsNewsSince};
+ghost use Rattle.std.specs.Prelude.{◌≡◌, IfErr, IfOk};
+ghost use Rattle.tp_window.specs.Outcomes.{HasShown, IsEffectOf, IsMadeBy, IsNewsSince};
+ghost use Rattle.tp_window.specs.declared.error.WindowError.TheVariants as refusal;
 ghost use Rattle.tp_window.specs.Refusing.{RefusesEffectOf, RefusesMadeBy, RefusesNewsSince};
 
 use crate::error::WindowError;
+use crate::memory::Memory;
 use crate::news::News;
-use crate::reading::hashes_of;
+use crate::reading::{hashes_of, heads_meant};
 use crate::showing::made_on;
 use crate::window::Edited;
 use std::alloc::Global;
@@ -51,16 +53,18 @@ pub(crate) fn made_by(
     Ok(made_on(document, &actor, &heads))
 }
 
-/// What is new since the text at the heads that have these digits.
+/// What is new since the text at the heads that are said so.
 pub(crate) fn news_since(
     alloc: Global,
+    memory: &Memory,
     document: &Document<PeerSequence>,
-    heads: &[String],
+    heads: &Option<Vec<String>>,
+    on: Option<u64>,
 ) -> Result<News, WindowError>
-    ensures ok { IfOk result (IsNewsSince heads.now document.now.applied) }
-    ensures err { IfErr result (RefusesNewsSince heads.now document.now.applied) }
+    ensures ok { IfOk result (IsNewsSince memory.now heads.now on document.now.applied) }
+    ensures err { IfErr result (RefusesNewsSince memory.now heads.now on document.now.applied) }
 {
-    let heads = hashes_of(alloc, heads)?;
+    let heads = heads_meant(alloc, memory, heads, on)?;
     match News::since(alloc, document, &heads) {
         Ok(news) => Ok(news),
         Err(error) => Err(WindowError::from(error)),
@@ -79,5 +83,22 @@ pub(crate) fn effect_in(
     match document.effect(&hash) {
         Ok(effect) => Ok(effect),
         Err(error) => Err(WindowError::from(error)),
+    }
+}
+
+/// The heads that the answer has which shows the outcome, where it has any. The only refusal is `OutOfMemory`.
+pub(crate) fn heads_shown(
+    alloc: Global,
+    document: &Document<PeerSequence>,
+    outcome: Outcome,
+) -> Result<Option<Vec<Hash>>, WindowError>
+    ensures ok { IfOk result (HasShown document.now.applied outcome) }
+    ensures err { IfErr result (λ e. e ≡ refusal.OutOfMemory) }
+{
+    match outcome {
+        Outcome::Text(_) => Ok(Some(Vec::from_slice(alloc, document.heads())?)),
+        Outcome::Edit(edited) => Ok(Some(edited.news.heads)),
+        Outcome::News(news) => Ok(Some(news.heads)),
+        _ => Ok(None),
     }
 }

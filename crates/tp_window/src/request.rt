@@ -30,6 +30,18 @@ impl TypedSplice {
     }
 }
 
+/// An edit of the text at some heads, which are said by either of the first two.
+#[derive(Debug, Drop, Deserialize)]
+#[serde(deny_unknown_fields)]
+pub struct TypedEdit {
+    /// The heads.
+    pub heads: Option<Vec<String>>,
+    /// The number of the answer that had them.
+    pub on: Option<u64>,
+    /// What is done to the text, one after another.
+    pub splices: Vec<TypedSplice>,
+}
+
 /// A request of a page. Hashes and actors are their hexadecimal digits.
 #[derive(Debug, Drop, Deserialize)]
 #[serde(rename_all = "lowercase", deny_unknown_fields)]
@@ -43,17 +55,14 @@ pub enum Request {
         /// At which heads its text was.
         heads: Vec<String>,
     },
-    /// An edit of the text at these heads.
-    Edit {
-        /// At which heads the text is.
-        heads: Vec<String>,
-        /// What is done to it, one after another.
-        splices: Vec<TypedSplice>,
-    },
-    /// What is new since these heads.
+    /// An edit of the text at some heads.
+    Edit(TypedEdit),
+    /// What is new since the text at some heads, which are said by either of these.
     Look {
-        /// At which heads the page's text is.
-        heads: Vec<String>,
+        /// The heads.
+        heads: Option<Vec<String>>,
+        /// The number of the answer that had them.
+        on: Option<u64>,
     },
     /// Some of the changes, in the order in which they were applied.
     Changes {

@@ -1,6 +1,6 @@
-//! The window itself: under whom a page edits.
+//! The window itself: under whom a page edits, and which heads its answers had.
 
-ghost use Rattle.std.specs.Prelude.{◌≡◌, ◌⊎◌, [], IfOk, IfSome, Result, Option};
+ghost use Rattle.std.specs.Prelude.{◌≡◌, ◌⊎◌, ◌+◌, [], IfOk, IfSome, OnOk, Result, Option};
 ghost use Rattle.std.specs.Str.{chars};
 ghost use Rattle.tp_opid.specs.declared.hash.Hash.{Hash as HashOf};
 ghost use Rattle.tp_document.specs.Editing.{asking};
@@ -8,10 +8,12 @@ ghost use Rattle.tp_peer.specs.Appending.{IsDurable};
 ghost use Rattle.tp_peer.specs.EditingAt.{StepsAt};
 ghost use Rattle.tp_peer.specs.Taking.{journal_of};
 ghost use Rattle.tp_peer.specs.declared.editing_at.EditAtError.{EditAtError as Refusal};
+ghost use Rattle.tp_window.specs.Numbers.{HadHeads, next_number};
 ghost use Rattle.tp_window.specs.Windows.{IsToldAs, Page, ShowsText, with_edit, with_news};
 
+use crate::memory::Memory;
 use crate::news::News;
-use std::alloc::Global;
+use std::alloc::{AllocError, Global};
 use tp_edit::Splice;
 use tp_journal::Journal;
 use tp_opid::{Actor, Hash};
@@ -26,18 +28,41 @@ pub struct Edited {
     pub news: News,
 }
 
-/// A page's window on a document: the actor of its edits.
-#[derive(Clone, Copy, Debug)]
+/// A page's window on a document: the actor of its edits, and the heads of its last answers.
+#[derive(Drop)]
 pub struct Window {
     actor: Actor,
+    memory: Memory,
 }
 
 impl Window {
-    /// A window whose edits are the actor's, which nobody else may use.
-    pub fn new(actor: Actor) -> Window
-        ensures { result.actor ≡ actor }
+    /// A window whose edits are the actor's, which nobody else may use. No answer has a number yet.
+    pub fn new(alloc: Global, actor: Actor) -> Window
+        ensures actor { result.actor ≡ actor }
+        ensures number { next_number result.memory ≡ 1 }
     {
-        Window { actor }
+        Window {
+            actor,
+            memory: Memory::new(alloc),
+        }
+    }
+
+    /// Keeps the heads of an answer that was just made under its number, so that a request may say this number in their place. It
+    /// forgets those of all but the last eight answers that had heads.
+    pub fn remember(&mut self, heads: Vec<Hash>) -> Result<(), AllocError>
+        ensures actor { self.new.actor ≡ self.old.actor }
+        ensures ok { OnOk result
+            (HadHeads self.new.memory (next_number self.old.memory) heads.items) }
+        ensures next { OnOk result (next_number self.new.memory ≡ next_number self.old.memory + 1) }
+    {
+        self.memory.remember(heads)
+    }
+
+    // Which heads have a number.
+    pub(crate) fn memory(&self) -> &Memory
+        ensures { result.now ≡ self.now.memory }
+    {
+        &self.memory
     }
 
     /// Under whom it edits.

@@ -29,6 +29,13 @@ local MOST_PASSED = 2000000
 -- After how long without an edit the whole buffer is compared, in milliseconds.
 local CHECK = 1000
 
+-- What refusals mean that end the sharing, and what is done then.
+local WORDS = {
+  JournalFailed = "the journal can't be written any more, or was moved, removed, replaced or cut",
+  Stopped = 'the journal failed before',
+}
+local AGAIN = 'put the journal back or make room, and :TextpeerOpen it again, which takes what you typed'
+
 -- The time in milliseconds.
 local function now()
   return vim.loop.hrtime() / 1e6
@@ -58,8 +65,9 @@ function Document.is_settled()
   return not mode.blocking and kind ~= 'c' and kind ~= 'r' and kind ~= '!'
 end
 
--- Shows the engine's document in the buffer. Of `calls`, `edited` is called after edits, `closed` once it is over. Where the
--- buffer has a text that was typed since a document stopped, `kept` is what the engine had then: the text becomes edits.
+-- Shows the engine's document in the buffer. Of `calls`, `edited` is called after edits, `closed` once it is over, and
+-- `is_there` says whether the journal is still where it was opened. Where the buffer has a text that was typed since a document
+-- stopped, `kept` is what that one's `texts` gives: the text becomes edits.
 function Document.new(buffer, engine, path, calls, kept)
   local self = setmetatable({
     buffer = buffer,
@@ -80,14 +88,23 @@ function Document.new(buffer, engine, path, calls, kept)
   return self
 end
 
--- Makes edits of what was typed since a document stopped whose text this was.
+-- Makes edits of what was typed since a document stopped: the engine has to have one of the texts of that one.
 function Document:take_over(kept)
-  if self.engine:text() ~= kept:text() then
-    error('its text is another than when it stopped: save the buffer as another file, and wipe it out first', 0)
+  local text = self.engine:text()
+  for _, shown in ipairs(kept) do
+    if text == shown:text() then
+      self.shown = shown
+      self.unsure = true
+      return self:flush()
+    end
   end
-  self.shown = kept
-  self.unsure = true
-  self:flush()
+  error('its text is another than when it stopped: save the buffer as another file, and wipe it out first', 0)
+end
+
+-- The texts that the journal may have once this has stopped: the engine's, and the one that a refused edit was to make, which
+-- the file may have all the same.
+function Document:texts()
+  return { self.shown, self.refused }
 end
 
 -- Whether it is over: it has stopped, or its buffer was unloaded with no word. An unloaded buffer has no lines, and is no text
@@ -313,6 +330,14 @@ function Document:edit(pieces, lines)
   return true
 end
 
+-- Stops where the journal isn't any more where it was opened; whether it is. The engine looks itself with each edit.
+function Document:look()
+  if not self.stopped and self.calls.is_there and not self.calls.is_there() then
+    self:stop('JournalFailed')
+  end
+  return not self.stopped
+end
+
 -- Makes edits of all that the buffer has and the engine hasn't, all as one change: after this both have one text. Where the
 -- events misled, it is found by comparing the whole.
 function Document:flush()
@@ -342,6 +367,7 @@ function Document:take()
     self.history:finish()
   end
   if not ok then
+    self.refused = Lines.of(lines_of(self.buffer))
     return self:stop(tostring(problem))
   end
   vim.bo[self.buffer].modified = false
@@ -385,7 +411,7 @@ end
 -- engine's by edits. Says so, and whether all was the same.
 function Document:check()
   self:flush()
-  if self.stopped then
+  if not self:look() then
     return false
   end
   local same
@@ -536,7 +562,7 @@ end
 -- Begins a session; what is to be sent at once.
 function Document:begin()
   self:flush()
-  if self.stopped then
+  if not self:look() then
     return nil
   end
   return self.engine:begin()
@@ -568,6 +594,12 @@ function Document:receive(bytes)
   return answer, going, refusal
 end
 
+-- Why it has stopped, for people.
+function Document:reason()
+  local words = WORDS[self.stopped]
+  return words and ('%s, %s'):format(self.stopped, words) or self.stopped
+end
+
 -- The buffer is no longer the engine's: says so, and why. Its text stays, as one that isn't saved.
 function Document:stop(reason)
   if self.stopped then
@@ -578,8 +610,8 @@ function Document:stop(reason)
   if api.nvim_buf_is_loaded(self.buffer) then
     vim.bo[self.buffer].modified = true
   end
-  say.error(('%s is no longer shared (%s). What you type is kept nowhere: save it by :saveas FILE, or open the journal again'):format(
-    self.path, reason))
+  say.error(('%s is no longer shared (%s). What you type stays in view and is kept nowhere: save it by :saveas FILE, or %s'):format(
+    self.path, self:reason(), WORDS[reason] and AGAIN or 'open the journal again'))
   if self.calls.closed then
     self.calls.closed()
   end

@@ -78,26 +78,33 @@ end
 local function show(buffer, path, anew)
   local handle = opened(path, anew)
   local one = {}
-  local stopped = shared[buffer] and vim.bo[buffer].modified and shared[buffer].document
+  local before = shared[buffer] and vim.bo[buffer].modified and shared[buffer].document
   local calls = {
     edited = function()
       if one.link then
         one.link:edited()
       end
     end,
+    is_there = function()
+      return journal.is_there(one)
+    end,
     closed = function()
+      journal.close(one)
       if one.link then
         one.link:close()
       end
     end,
   }
-  local ok, document = pcall(Document.new, buffer, handle, path, calls, stopped and stopped.shown or nil)
+  local ok, document = pcall(Document.new, buffer, handle, path, calls, before and before:texts() or nil)
   if not ok then
     handle:close()
     error(document, 0)
   end
   one.document = document
   shared[buffer] = one
+  if not document.stopped then
+    journal.open(one, path)
+  end
 end
 
 local PREFIX = 'textpeer://'
@@ -292,11 +299,11 @@ function M.status(buffer)
   end
   local document, link = one.document, one.link
   local lines = { 'journal   ' .. vim.fn.fnamemodify(document.path, ':~:.') }
-  if document.stopped then
-    lines[#lines + 1] = 'stopped   ' .. document.stopped
+  document:flush()
+  if not document:look() then
+    lines[#lines + 1] = 'stopped   ' .. document:reason()
     return lines
   end
-  document:flush()
   lines[#lines + 1] = 'document  ' .. hex(document.engine:id())
   lines[#lines + 1] = ('changes   %d; %d came since it was opened'):format(document.engine:change_count(), document.entered)
   for _, head in ipairs(document.engine:heads()) do

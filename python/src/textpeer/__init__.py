@@ -18,17 +18,19 @@ taken too), texts are ``str``, and positions count the characters of a ``str``. 
 TypeError, and one that can't be meant ValueError. What the engine itself refuses raises a subclass of `Refused` that
 is named after the refusal, as `OutOfRange`; for want of memory that is a MemoryError too.
 
-Don't use an editor in the child of a ``fork``.
+An editor belongs to the process that opened it: in one that was forked from it, as by ``multiprocessing``, its calls
+raise `Forked`. It is neither copied nor pickled.
 """
 from . import refusals
 from ._arguments import Splice
 from .changes import Change
 from .editor import Cursor, Editor, Link
 from .refusals import *  # noqa: F403
+from .refusals import Forked
 from .sessions import Session
 from .shared import SharedEditor
 
 __version__ = "0.1"
 
-__all__ = ["Change", "Cursor", "Editor", "Link", "Session", "SharedEditor", "Splice", "__version__"]
+__all__ = ["Change", "Cursor", "Editor", "Forked", "Link", "Session", "SharedEditor", "Splice", "__version__"]
 __all__ += refusals.__all__

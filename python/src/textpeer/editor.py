@@ -35,9 +35,10 @@ from ._arguments import (
     whole,
 )
 from ._library import Element, FlatChange, FlatSplice, library
-from ._owner import Owner, new_handle
+from ._owner import Owner, Single, new_handle
 from ._streams import clock, hold_over_socket, hold_over_streams, one_timeout, place_of
 from .changes import Change, change_of
+from .refusals import Forked
 from .sessions import Reader, Role, Session, Stream, Writer
 
 Self = TypeVar("Self", bound="Editor")
@@ -68,8 +69,9 @@ class Editor(Owner):
 
     It is freed by `close`, at the end of a ``with``, or when it is collected. Threads may share it: its calls come
     one after another, and so do its sessions. Another thread may read and edit while one waits for the other side of
-    a session. Positions and lengths count the characters of a str. A call that is refused leaves the document as it
-    was, but where it says otherwise.
+    a session. A process that is forked may not: its calls are refused as `Forked`, but for `close`, which does nothing
+    there. It is neither copied nor pickled: a TypeError. Positions and lengths count the characters of a str. A call
+    that is refused leaves the document as it was, but where it says otherwise.
     """
 
     def __init__(self, identifier: BytesLike, actor: Optional[BytesLike] = None) -> None:
@@ -114,6 +116,8 @@ class Editor(Owner):
 
     def __repr__(self) -> str:
         name = f"{type(self).__module__.split('.')[0]}.{type(self).__qualname__}"
+        if self._is_forked:
+            return f"<{name}, of process {self._process}>"
         with self._lock:
             if self.closed:
                 return f"<{name}, closed>"
@@ -250,7 +254,7 @@ class Editor(Owner):
         `time` is a number as the caller counts time, and `message` has up to 65,535 bytes as UTF-8: both are kept
         with the change. Refused as `OutOfRange` where the text ends before, `TooManyOps` past 65,536 characters in
         all, `TooLong`, and for want of memory. In a file the change is on the disk then: `JournalFailed`, an OSError,
-        where the journal's device failed, and `Stopped` from then on.
+        where the journal can't be written, or its file was moved, replaced or cut, and `Stopped` from then on.
         """
         inserted, said = utf8(text, "a text"), utf8(message, "a message")
         return (
@@ -398,6 +402,8 @@ class Editor(Owner):
 
     def _in_turn(self, left: Callable[[], Optional[float]], session: Callable[[], int]) -> int:
         """Holds a session once no other one is held, if that is in time."""
+        if self._is_forked:
+            raise Forked(self._process)
         wait = left()
         if not self._turn.acquire(timeout=-1 if wait is None else min(wait, threading.TIMEOUT_MAX)):
             raise TimeoutError("timed out")
@@ -407,9 +413,11 @@ class Editor(Owner):
             self._turn.release()
 
 
-class Link:
+class Link(Single):
     """What an editor knows of another peer, with which it exchanges messages: they may be lost, and come twice, late
     or in any order. `Editor.link` opens one."""
+
+    _instead = "`Editor.link` opens another one"
 
     def __init__(self, editor: Editor, number: int) -> None:
         self.editor = editor

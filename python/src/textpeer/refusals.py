@@ -28,6 +28,24 @@ class Refused(Exception):
         return f"{type(self).__name__}: {self.words}"
 
 
+class Forked(RuntimeError):
+    """An editor was called in another process than the one that opened it: in one that was forked from it, as each
+    worker of a ``multiprocessing.Pool`` is by default. Two processes never write one journal, so it isn't used there.
+    The package itself refuses this, and not the engine."""
+
+    process: int
+
+    def __init__(self, process: int) -> None:
+        super().__init__(process)
+        self.process = process
+
+    def __str__(self) -> str:
+        return (
+            f"this process was forked from {self.process}, which opened the editor: call it there, and open one here"
+            " on a journal of its own, or once the other one is closed"
+        )
+
+
 def refusal(status: int) -> Refused:
     """The refusal with this status, to be raised."""
     return STATUSES.get(status, Refused)(status)
@@ -89,7 +107,7 @@ _WORDS: Dict[int, str] = {
     411: "memory was refused",
     412: "the version of the change is 2, and it has no run of deletes",
     501: "the journal has a change of this actor: draw another one",
-    502: "the journal's device failed in this call, and the editor has stopped: close it and open the file again",
+    502: "the journal can't be written or was moved, replaced or cut: close it, put it back or make room, open it anew",
     503: "the editor has stopped since its journal failed: close it and open the file again",
     504: "there are as many links as there may be",
     505: "the file has a journal or other bytes already",
@@ -264,8 +282,8 @@ class ActorInUse(Refused):
 
 
 class JournalFailed(Refused, OSError):
-    """The journal's device failed in this call, and the editor has stopped: close it and open the file again (502). It
-    is an OSError too."""
+    """The journal can't be written or was moved, replaced or cut: close it, put it back or make room, open it anew
+    (502). It is an OSError too."""
 
 
 class Stopped(Refused):

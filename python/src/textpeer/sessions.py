@@ -6,6 +6,7 @@ from typing import TYPE_CHECKING, Any, Literal, Optional, Protocol
 
 from ._arguments import BytesLike, some_bytes
 from ._library import library
+from ._owner import Single
 from .refusals import refusal_in_session
 
 if TYPE_CHECKING:
@@ -33,7 +34,7 @@ class Stream(Reader, Writer, Protocol):
     """A stream that is read and written."""
 
 
-class Session:
+class Session(Single):
     """One side of a session, by bytes: for an event loop of your own. `Editor.begin` begins one.
 
     Send what `data_to_send` gives, first of all and after each call of `receive_data`, also after one that was
@@ -51,6 +52,8 @@ class Session:
     A session exchanges what both sides have, and what they make until each has said that it is done. It never waits.
     At most 16,777,220 bytes of a frame that isn't whole yet are held.
     """
+
+    _instead = "`Editor.begin` begins another one"
 
     def __init__(self, editor: Editor, first: bytes) -> None:
         self._editor, self._due, self._is_complete, self._entered = editor, [first], False, 0
@@ -83,7 +86,8 @@ class Session:
         Each refusal ends the session, and what it had received stays: `Frame`, `Unexpected`, `Version` or
         `OtherDocument` where the other side keeps to no rule or has another document, what it sent where it refused
         itself (701 and further), `BadMessage`, `BadChange` or `PendingFull` for its messages, `JournalFailed` where
-        the journal's device failed, and want of memory. A session that is over is refused as `Unexpected`.
+        the journal can't be written or was moved, and want of memory. A session that is over is refused as
+        `Unexpected`.
         """
         data = some_bytes(data, "what came")
         length, going, entered = ctypes.c_size_t(), ctypes.c_uint32(), ctypes.c_uint64()

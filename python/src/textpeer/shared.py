@@ -24,8 +24,11 @@ class SharedEditor(Editor):
             notes.sync("127.0.0.1:7000")
             print(notes.text())
 
-    After `JournalFailed` it edits and exchanges no more, and such calls are refused as `Stopped`. What it has is
-    still read; close it and open the file again: what was on the disk is there.
+    `JournalFailed` means that the journal can't be written any more, as on a full disk, or that its path doesn't lead
+    to it any more: the file was moved, removed or replaced by another one, as `git checkout` and programs that
+    synchronise folders do, or it was cut. What the call did isn't kept for sure, and what was answered before is in
+    the old file. From then on it edits and exchanges no more, and such calls are refused as `Stopped`. What it has is
+    still read. Close it, put the file back or make room, and open it again: what was on the disk is there.
     """
 
     _path: str

@@ -5,8 +5,8 @@ pub returns : goal.returns
 returns c =
     let begun = c.with-begun.ensures bare_app new_shape c.program.ensures c.new_command.ensures in
     let edited = c.with-edited.ensures _ edit_shape begun c.edit_command.ensures in
-    let updated = c.with-updated.ensures _ update_shape edited c.whole_text_command.ensures in
-    let imported = c.with-imported.ensures _ import_shape updated c.whole_text_command-2.ensures in
+    let updated = c.with-updated.ensures _ update_shape edited c.update_command.ensures in
+    let imported = c.with-imported.ensures _ import_shape updated c.whole_text_command.ensures in
     let read = c.with-read.ensures _ text_shape imported c.text_command.ensures in
     let headed = c.with-headed.ensures _ heads_shape read c.file_command.ensures in
     let logged = c.with-logged.ensures _ log_shape headed c.log_command.ensures in

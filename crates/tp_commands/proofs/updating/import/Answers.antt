@@ -9,4 +9,4 @@ on_done (Err e) p = tt
 
 pub returns-in-Ok-false-clause-empty : goal.returns-in-Ok-false-clause-empty
 returns-in-Ok-false-clause-empty g c =
-    on_done c.update.result (c.args.opened.1.document.id, c.args.opened.1.document.applied, c.args.opened.1.keep, c.requires.recovers, c.in-Ok-false.ensures.ok c.in-Ok-false.field-0-test)
+    on_done c.update_now.result (c.args.opened.1.document.id, c.args.opened.1.document.applied, c.args.opened.1.keep, c.requires.recovers, c.in-Ok-false.ensures.ok c.in-Ok-false.field-0-test)

@@ -1,8 +1,14 @@
 use Rattle.std.proofs.Common.{ℕ, List, IfErr, subst, sym}
+use Rattle.std.specs.Prelude.{IfOk}
+use Rattle.std.specs.Str.{chars}
 use Rattle.std.specs.String.{string_bytes}
+use Rattle.tp_opid.specs.declared.hash.Hash.{Hash}
 use Rattle.tp_command_line.specs.declared.job.FileJob.{FileJob}
 use Rattle.tp_command_line.specs.declared.job.FileJob.TheVariants.{Edit, Import, Update}
+use Rattle.tp_disk.specs.DiskView.{ChangesFile}
 use Rattle.tp_report.specs.Names.{WasMade}
+use Rattle.tp_program.specs.Files.{OfGiven}
+use Rattle.tp_program.specs.Lines.{AreUpdateLines}
 use Rattle.tp_program.specs.Output.{IsFilesPrinted}
 use Rattle.tp_program.proofs.DoneLaws.{made_of}
 use Rattle.tp_program.proofs.running.carry_out.Goals as goal
@@ -19,9 +25,13 @@ returns-in-Edit-clause-unsaid g c =
 pub returns-in-Update-clause-unsaid : goal.returns-in-Update-clause-unsaid
 returns-in-Update-clause-unsaid g c =
     let saw = g.D.Folders.saw c.args.rt.now in
-    let update : FileJob = Update c.in-Update.file c.in-Update.source c.in-Update.time c.in-Update.message c.in-Update.key in
+    let update : FileJob = Update c.in-Update.file c.in-Update.source c.in-Update.since c.in-Update.time c.in-Update.message c.in-Update.key in
     let P : FileJob → Type 0 = λ job. IfErr c.put_made-in-Update.result (WasMade (IsFilesPrinted saw job)) in
-    subst P (sym c.in-Update.is) (made_of c.put_made-in-Update.result c.update_text.result (IsFilesPrinted saw update) (λ p. string_bytes p.0) c.put_made-in-Update.ensures.unsaid c.update_text.ensures.lines)
+    let lines =
+    subst (λ (hs : List Hash). IfOk c.update_text.result (λ p. OfGiven saw c.in-Update.source.now (λ bytes. ChangesFile saw c.in-Update.file.now (λ before after.
+    AreUpdateLines c.in-Update.key hs (chars bytes) c.in-Update.time (chars c.in-Update.message.now) before after (string_bytes p.0)))))
+    c.deref.ensures.value c.update_text.ensures.lines in
+    subst P (sym c.in-Update.is) (made_of c.put_made-in-Update.result c.update_text.result (IsFilesPrinted saw update) (λ p. string_bytes p.0) c.put_made-in-Update.ensures.unsaid lines)
 
 pub returns-in-Import-clause-unsaid : goal.returns-in-Import-clause-unsaid
 returns-in-Import-clause-unsaid g c =

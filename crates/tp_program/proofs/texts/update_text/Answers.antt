@@ -1,6 +1,6 @@
 use Rattle.std.proofs.Common.{◌≡◌, ◌∙◌, List, ℕ, ap, inr, subst}
 use Rattle.std.specs.Str.{chars}
-use Rattle.tp_commands.specs.Updating.{UpdatesJournal}
+use Rattle.tp_commands.specs.Since.{UpdatesFrom}
 use Rattle.tp_disk.specs.DiskView.{WasLeft}
 use Rattle.tp_program.proofs.DoneLaws.{done_on, on_value, refused_on}
 use Rattle.tp_disk.specs.Keys.{drawn_actor}
@@ -24,8 +24,8 @@ returns-clause-lines g c =
           generator = actor.0;
           hashes = c.in_ok-journal-2.hashes.items;
           keyed = actor.1;
-          updates = subst (λ (t : List ℕ). UpdatesJournal before (drawn_actor actor.0) (chars t) c.args.time (chars c.args.message.now) c.in_ok-journal-2.hashes.items after) text
-              (subst (λ a. UpdatesJournal before a (chars c.in_ok-text.text.now) c.args.time (chars c.args.message.now) c.in_ok-journal-2.hashes.items after) actor.2 c.in_ok-journal-2.ensures.updates);
+          updates = subst (λ (t : List ℕ). UpdatesFrom c.args.since.now before (drawn_actor actor.0) (chars t) c.args.time (chars c.args.message.now) c.in_ok-journal-2.hashes.items after) text
+              (subst (λ a. UpdatesFrom c.args.since.now before a (chars c.in_ok-text.text.now) c.args.time (chars c.args.message.now) c.in_ok-journal-2.hashes.items after) actor.2 c.in_ok-journal-2.ensures.updates);
           spelled = spelled;
         },
         subst (λ (b : List ℕ). g.D.Folders.saw c.args.rt.now (WasLeft c.args.file.now b)) c.in_ok-leave.ensures.stays c.in_ok-leave.ensures.left,

@@ -1,0 +1,41 @@
+use Rattle.std.proofs.Common.{◌≡◌, ◌∙◌, List, [], ◌∷◌, ◌++◌, Option, Some, None, Ok, Err, ap, inr, subst, sym}
+use Rattle.std.specs.Str.{chars}
+use Rattle.tp_document.specs.Editing.{EditRequest, asking}
+use Rattle.tp_opid.specs.declared.hash.Hash.{Hash}
+use Rattle.tp_peer.specs.EditingAt.{StepsAt}
+use Rattle.tp_commands.specs.Since.{MakesNextAt}
+use Rattle.tp_commands.proofs.SinceLaws.{makes_one_at, makes_some_at, stops_one_at}
+use Rattle.tp_commands.proofs.since.edit_on.Goals as goal
+
+pub returns-in_ok-push-in-Ok-Some-2-clause-ok : goal.returns-in_ok-push-in-Ok-Some-2-clause-ok
+returns-in_ok-push-in-Ok-Some-2-clause-ok g c =
+    let by = c.args.by.now in
+    let asked : EditRequest = asking by.actor c.args.splices.now by.time (chars by.message.now) in
+    let h : Hash = c.in-Ok-Some.hash in
+    let answered = subst (λ (o : Option Hash). StepsAt c.args.peer.now c.deref.result.now asked (Ok o) c.edit_at.new.self) c.in-Ok-Some.field-0-is c.in-Ok-Some.ensures.step in
+    let step = subst (λ (hs : List Hash). StepsAt c.args.peer.now hs asked (Ok (Some h)) c.edit_at.new.self) c.deref.ensures.value answered in
+    let made = makes_one_at c.args.peer.now c.edit_at.new.self by.actor c.args.splices.now by.time (chars by.message.now) c.args.on.now.items c.args.hashes.now.items h c.requires.runs step in
+    let on_is : c.push.new.self.items ≡ h ∷ [] = c.in_ok-push-in-Ok-Some.ensures.items ∙ ap (λ l. l ++ h ∷ []) c.clear.ensures.items in
+    let said = subst (λ (hs : List Hash). MakesNextAt c.args.splices.now by.actor by.time (chars by.message.now) c.args.on.now.items c.args.hashes.now.items c.args.peer.now hs (c.args.hashes.now.items ++ h ∷ []) c.edit_at.new.self) (sym on_is) made in
+    subst (λ (hs : List Hash). MakesNextAt c.args.splices.now by.actor by.time (chars by.message.now) c.args.on.now.items c.args.hashes.now.items c.args.peer.now c.push.new.self.items hs c.edit_at.new.self) (sym c.in_ok-push-in-Ok-Some-2.ensures.items) said
+
+pub returns-in-Ok-None-clause-ok : goal.returns-in-Ok-None-clause-ok
+returns-in-Ok-None-clause-ok g c =
+    let by = c.args.by.now in
+    let asked : EditRequest = asking by.actor c.args.splices.now by.time (chars by.message.now) in
+    let answered = subst (λ (o : Option Hash). StepsAt c.args.peer.now c.deref.result.now asked (Ok o) c.edit_at.new.self) c.in-Ok-None.field-0-is c.in-Ok-None.ensures.step in
+    absurd (makes_some_at c.args.peer.now c.edit_at.new.self by.actor c.args.splices.now by.time (chars by.message.now) c.deref.result.now c.requires.runs c.requires.some answered)
+
+pub returns-in-Ok-None-clause-text : goal.returns-in-Ok-None-clause-text
+returns-in-Ok-None-clause-text g c =
+    let by = c.args.by.now in
+    let asked : EditRequest = asking by.actor c.args.splices.now by.time (chars by.message.now) in
+    let answered = subst (λ (o : Option Hash). StepsAt c.args.peer.now c.deref.result.now asked (Ok o) c.edit_at.new.self) c.in-Ok-None.field-0-is c.in-Ok-None.ensures.step in
+    absurd (makes_some_at c.args.peer.now c.edit_at.new.self by.actor c.args.splices.now by.time (chars by.message.now) c.deref.result.now c.requires.runs c.requires.some answered)
+
+pub returns-in-Err-clause-err : goal.returns-in-Err-clause-err
+returns-in-Err-clause-err g c =
+    let by = c.args.by.now in
+    let asked : EditRequest = asking by.actor c.args.splices.now by.time (chars by.message.now) in
+    let step = subst (λ (hs : List Hash). StepsAt c.args.peer.now hs asked (Err c.in-Err.error) c.edit_at.new.self) c.deref.ensures.value c.in-Err.ensures.step in
+    λ p H ss rest before. inr (stops_one_at c.args.peer.now c.edit_at.new.self by.actor c.args.splices.now by.time (chars by.message.now) c.args.on.now.items c.args.hashes.now.items c.in-Err.error c.requires.runs step c.from.result c.from.ensures p H ss rest before)
