@@ -2,6 +2,7 @@ pub mod AuthorLaws
 pub mod DiffLaws
 pub mod Journals
 pub mod GraphLines
+pub mod HalfWayLaws
 pub mod LabelLaws
 pub mod LogLines
 pub mod PartLaws

@@ -1,5 +1,6 @@
 pub mod CommandError
 pub mod Cutting
+pub mod HalfWay
 pub mod Reading
 pub mod Refusing
 pub mod Log
