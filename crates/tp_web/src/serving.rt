@@ -68,7 +68,7 @@ struct Door<'a, L> {
 // What the workers share: the page's site, how many windows may be open, the connections that ask for one, and the key from which
 // the windows' actors are drawn.
 #[derive(Drop)]
-struct Work<'a, S> {
+struct WorkerContext<'a, S> {
     site: &'a Site,
     limit: &'a Limit,
     windows: Receiver<Asking<S>>,
@@ -209,7 +209,7 @@ fn candidate_of(
 fn work<R: Wait + Clock + Eprint, S: Read + Write + OpenStream + Drop, J: Journal>(
     rt: &R,
     alloc: Global,
-    shared: &Work<'_, S>,
+    shared: &WorkerContext<'_, S>,
     served: &Served<J>,
     seat: &mut Seat,
 )
@@ -239,7 +239,13 @@ fn work_on_all<
     R: Threads + Wait + Clock + Eprint + Sync,
     S: Read + Write + OpenStream + Send + Drop,
     J: Journal + Send,
->(rt: &R, alloc: Global, shared: Work<'_, S>, served: &Served<J>, seats: Vec<Seat>) -> Vec<Seat>
+>(
+    rt: &R,
+    alloc: Global,
+    shared: WorkerContext<'_, S>,
+    served: &Served<J>,
+    seats: Vec<Seat>,
+) -> Vec<Seat>
     requires { AreOf served.now.served seats.items }
     ensures { AllAttend seats.items result.items }
 {
@@ -332,7 +338,7 @@ pub fn serve_windows<
         windows: Limit::new(seats.len() as u64),
     };
     let open = &door;
-    let shared = Work {
+    let shared = WorkerContext {
         site,
         limit: &door.windows,
         windows: waiting,
