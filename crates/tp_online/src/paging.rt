@@ -14,6 +14,7 @@ use crate::accepting::{KEPT, Teller, WEB_PLACES};
 use crate::hosting::{ServerAt, Stage, take_part};
 use crate::listening::{Listening, bind, listen};
 use crate::seating::{end_serving, seat_peer};
+use crate::serving::listening_line;
 use std::alloc::Global;
 use std::fs::OpenFile;
 use std::io::Write;
@@ -43,6 +44,14 @@ fn draw_secret<D: Disk>(rt: &D) -> Result<Secret, CommandError> {
     Ok(Secret { key, challenges })
 }
 
+// The line of a page's address with its key.
+fn address_line(alloc: Global, page: SocketAddr, key: &[u8; 16]) -> Result<String, CommandError>
+    ensures ok { IfOk result (λ l. string_bytes l ≡ line_of_page page key.now) }
+{
+    let digits = hex::encode(alloc, key)?;
+    Ok(format!(in alloc; "http://{page}/#{digits}\n")?)
+}
+
 // The line of a page's address with its key, and that of the port of sessions beside it, where there is one.
 fn page_lines(
     alloc: Global,
@@ -52,10 +61,13 @@ fn page_lines(
 ) -> Result<String, CommandError>
     ensures ok { IfOk result (λ l. string_bytes l ≡ line_of_page page key.now ++ beside_line port) }
 {
-    let digits = hex::encode(alloc, key)?;
+    let address = address_line(alloc, page, key)?;
     match port {
-        Some(port) => Ok(format!(in alloc; "http://{page}/#{digits}\nlistening {port}\n")?),
-        None => Ok(format!(in alloc; "http://{page}/#{digits}\n")?),
+        Some(port) => {
+            let listening = listening_line(alloc, port)?;
+            Ok(format!(in alloc; "{address}{listening}")?)
+        }
+        None => Ok(address),
     }
 }
 

@@ -59,7 +59,7 @@ pub struct Met<F: Write + OpenFile + Drop> {
 }
 
 // The line of the port on which a server listens.
-fn listening_line(alloc: Global, port: u16) -> Result<String, CommandError>
+pub(crate) fn listening_line(alloc: Global, port: u16) -> Result<String, CommandError>
     ensures ok { IfOk result (λ l. string_bytes l ≡ line_of_port port) }
 {
     Ok(format!(in alloc; "listening {port}\n")?)
