@@ -6,7 +6,7 @@ use std::test::Fail;
 use tp_journal::MemJournal;
 use tp_opid::{Actor, DocId};
 use tp_peer::Peer;
-use tp_window::Window;
+use tp_window::{Said, Window};
 
 // A document without a change.
 fn empty_peer(alloc: Global) -> Option<Peer<MemJournal>> {
@@ -23,12 +23,15 @@ fn answers_so(
     answer: &str,
     is_last: bool,
 ) -> Result<bool, AllocError> {
-    let said = window.answer(alloc, peer, 5, request)?;
-    let is_so = said.text.as_str() == answer && said.refusal.is_some() == is_last;
-    if let Some(heads) = said.heads {
+    let Said {
+        text,
+        heads,
+        refusal,
+    } = window.answer(alloc, peer, 5, request)?;
+    if let Some(heads) = heads {
         window.remember(heads)?;
     }
-    Ok(is_so)
+    Ok(text.as_str() == answer && refusal.is_some() == is_last)
 }
 
 // Two windows write at the beginning of the empty text, each before it hears of the other: the character of the greater actor
