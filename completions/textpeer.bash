@@ -23,28 +23,28 @@ _textpeer() {
     # Of the command: its values, those that come after them, its options, and which of these take a value.
     local values rest='' takes='' place=0 name journal=''
     case ${words[1]} in
-    new) values=(file) options='--key -h --help' takes='--key' ;;
-    edit) values=(file) options='--at --del --text --text-file --time --message --key -h --help' takes='--at --del --text --text-file --time --message --key' ;;
-    update) values=(file file) options='--time --message --key --since -h --help' takes='--time --message --key --since' ;;
-    import) values=(file file) options='--time --message --key -h --help' takes='--time --message --key' ;;
-    text) values=(file hash) rest=hash options='--raw -h --help' ;;
-    heads) values=(file) options='-h --help' ;;
-    log) values=(file) options='--pretty --most -h --help' takes='--most' ;;
-    graph) values=(file) options='-h --help' ;;
-    diff) values=(file hash) rest=hash options='--to -h --help' takes='--to' ;;
-    status) values=(file) options='-h --help' ;;
-    cursor) values=(file other hash) rest=hash options='-h --help' ;;
-    check) values=(file) options='-h --help' ;;
-    merge) values=(file file) options='--key -h --help' takes='--key' ;;
-    save) values=(file file) options='-h --help' ;;
-    load) values=(file file) options='-h --help' ;;
-    recover) values=(file file) options='-h --help' ;;
-    show) values=(file) options='-h --help' ;;
-    simulate) values=(file) options='-h --help' ;;
-    serve) values=(file other) options='--sessions --workers --patience --verbose --key -h --help' takes='--sessions --workers --patience --key' ;;
-    sync) values=(file other) options='--follow --sessions --patience --key -h --help' takes='--sessions --patience --key' ;;
-    session) values=(file) options='--client --key -h --help' takes='--key' ;;
-    web) values=(file other) options='--serve --follow --key -h --help' takes='--serve --follow --key' ;;
+    new) values=(file) options='--key --explain -h --help' takes='--key' ;;
+    edit) values=(file) options='--at --del --text --text-file --time --message --key --explain -h --help' takes='--at --del --text --text-file --time --message --key' ;;
+    update) values=(file file) options='--time --message --key --since --explain -h --help' takes='--time --message --key --since' ;;
+    import) values=(file file) options='--time --message --key --explain -h --help' takes='--time --message --key' ;;
+    text) values=(file hash) rest=hash options='--raw --explain -h --help' ;;
+    heads) values=(file) options='--explain -h --help' ;;
+    log) values=(file) options='--pretty --most --explain -h --help' takes='--most' ;;
+    graph) values=(file) options='--explain -h --help' ;;
+    diff) values=(file hash) rest=hash options='--to --explain -h --help' takes='--to' ;;
+    status) values=(file) options='--explain -h --help' ;;
+    cursor) values=(file other hash) rest=hash options='--explain -h --help' ;;
+    check) values=(file) options='--explain -h --help' ;;
+    merge) values=(file file) options='--key --explain -h --help' takes='--key' ;;
+    save) values=(file file) options='--explain -h --help' ;;
+    load) values=(file file) options='--explain -h --help' ;;
+    recover) values=(file file) options='--explain -h --help' ;;
+    show) values=(file) options='--explain -h --help' ;;
+    simulate) values=(file) options='--explain -h --help' ;;
+    serve) values=(file other) options='--sessions --workers --patience --verbose --key --explain -h --help' takes='--sessions --workers --patience --key' ;;
+    sync) values=(file other) options='--follow --sessions --patience --key --explain -h --help' takes='--sessions --patience --key' ;;
+    session) values=(file) options='--client --key --explain -h --help' takes='--key' ;;
+    web) values=(file other) options='--serve --follow --key --explain -h --help' takes='--serve --follow --key' ;;
     *) return ;;
     esac
     options=" $options "

@@ -34,6 +34,7 @@ complete -c textpeer -n __fish_use_subcommand -s V -l version -d 'Print version'
 complete -c textpeer -n __fish_use_subcommand -a new -d 'Begins a journal, and prints the identifier of its document'
 complete -c textpeer -n '__textpeer_does new; and test (__textpeer_place) -eq 1' -F
 complete -c textpeer -n '__textpeer_does new; and not __fish_contains_opt key' -l key -x -d 'the key of the random numbers, in 64 hexadecimal digits; from /dev/urandom if left out'
+complete -c textpeer -n '__textpeer_does new; and not __fish_contains_opt explain' -l explain -d 'says below a refusal which file it is about and what to do, as always on a terminal'
 complete -c textpeer -n '__textpeer_does new; and not __fish_contains_opt -s h help' -s h -l help -d 'Print help'
 complete -c textpeer -n __fish_use_subcommand -a edit -d 'Makes one change, and prints its hash, or `nothing` where it changes nothing'
 complete -c textpeer -n '__textpeer_does edit; and test (__textpeer_place) -eq 1' -F
@@ -44,6 +45,7 @@ complete -c textpeer -n '__textpeer_does edit; and not __fish_contains_opt text-
 complete -c textpeer -n '__textpeer_does edit; and not __fish_contains_opt time' -l time -x -d 'the time of the change [default: 0]'
 complete -c textpeer -n '__textpeer_does edit; and not __fish_contains_opt message' -l message -x -d 'the message of the change; empty if left out'
 complete -c textpeer -n '__textpeer_does edit; and not __fish_contains_opt key' -l key -x -d 'the key of the random numbers, in 64 hexadecimal digits; from /dev/urandom if left out'
+complete -c textpeer -n '__textpeer_does edit; and not __fish_contains_opt explain' -l explain -d 'says below a refusal which file it is about and what to do, as always on a terminal'
 complete -c textpeer -n '__textpeer_does edit; and not __fish_contains_opt -s h help' -s h -l help -d 'Print help'
 complete -c textpeer -n __fish_use_subcommand -a update -d 'Makes the text that of a file, by the differences of both, and prints the hash of each change, or `nothing` where they are equal'
 complete -c textpeer -n '__textpeer_does update; and test (__textpeer_place) -eq 1' -F
@@ -52,6 +54,7 @@ complete -c textpeer -n '__textpeer_does update; and not __fish_contains_opt tim
 complete -c textpeer -n '__textpeer_does update; and not __fish_contains_opt message' -l message -x -d 'the message of the change; empty if left out'
 complete -c textpeer -n '__textpeer_does update; and not __fish_contains_opt key' -l key -x -d 'the key of the random numbers, in 64 hexadecimal digits; from /dev/urandom if left out'
 complete -c textpeer -n '__textpeer_does update; and not __fish_contains_opt since' -l since -x -d 'the heads at which the file was taken out, as the last words: what came since stays; the text now if left out'
+complete -c textpeer -n '__textpeer_does update; and not __fish_contains_opt explain' -l explain -d 'says below a refusal which file it is about and what to do, as always on a terminal'
 complete -c textpeer -n '__textpeer_does update; and not __fish_contains_opt -s h help' -s h -l help -d 'Print help'
 complete -c textpeer -n __fish_use_subcommand -a import -d 'Brings the text of a file into a new document, or one without text, and prints the hash of each change'
 complete -c textpeer -n '__textpeer_does import; and test (__textpeer_place) -eq 1' -F
@@ -59,60 +62,75 @@ complete -c textpeer -n '__textpeer_does import; and test (__textpeer_place) -eq
 complete -c textpeer -n '__textpeer_does import; and not __fish_contains_opt time' -l time -x -d 'the time of the change [default: 0]'
 complete -c textpeer -n '__textpeer_does import; and not __fish_contains_opt message' -l message -x -d 'the message of the change; empty if left out'
 complete -c textpeer -n '__textpeer_does import; and not __fish_contains_opt key' -l key -x -d 'the key of the random numbers, in 64 hexadecimal digits; from /dev/urandom if left out'
+complete -c textpeer -n '__textpeer_does import; and not __fish_contains_opt explain' -l explain -d 'says below a refusal which file it is about and what to do, as always on a terminal'
 complete -c textpeer -n '__textpeer_does import; and not __fish_contains_opt -s h help' -s h -l help -d 'Print help'
 complete -c textpeer -n __fish_use_subcommand -a text -d 'Prints the text, as it is now or at earlier heads'
 complete -c textpeer -n '__textpeer_does text; and test (__textpeer_place) -eq 1' -F
 complete -c textpeer -n '__textpeer_does text; and test (__textpeer_place) -ge 2' -k -a '(__textpeer_changes)'
 complete -c textpeer -n '__textpeer_does text; and not __fish_contains_opt raw' -l raw -d 'prints no newline after the text'
+complete -c textpeer -n '__textpeer_does text; and not __fish_contains_opt explain' -l explain -d 'says below a refusal which file it is about and what to do, as always on a terminal'
 complete -c textpeer -n '__textpeer_does text; and not __fish_contains_opt -s h help' -s h -l help -d 'Print help'
 complete -c textpeer -n __fish_use_subcommand -a heads -d 'Prints the hashes of the changes on which no other depends'
 complete -c textpeer -n '__textpeer_does heads; and test (__textpeer_place) -eq 1' -F
+complete -c textpeer -n '__textpeer_does heads; and not __fish_contains_opt explain' -l explain -d 'says below a refusal which file it is about and what to do, as always on a terminal'
 complete -c textpeer -n '__textpeer_does heads; and not __fish_contains_opt -s h help' -s h -l help -d 'Print help'
 complete -c textpeer -n __fish_use_subcommand -a log -d 'Prints a line for each change: hash, actor, sequence number, time, inserted and deleted characters, message'
 complete -c textpeer -n '__textpeer_does log; and test (__textpeer_place) -eq 1' -F
 complete -c textpeer -n '__textpeer_does log; and not __fish_contains_opt pretty' -l pretty -d 'for people: the newest first, short hashes and actors, dates (UTC) of times that are seconds since 1970'
 complete -c textpeer -n '__textpeer_does log; and not __fish_contains_opt most' -l most -x -d 'the newest N changes only'
+complete -c textpeer -n '__textpeer_does log; and not __fish_contains_opt explain' -l explain -d 'says below a refusal which file it is about and what to do, as always on a terminal'
 complete -c textpeer -n '__textpeer_does log; and not __fish_contains_opt -s h help' -s h -l help -d 'Print help'
 complete -c textpeer -n __fish_use_subcommand -a graph -d 'Prints the changes as a graph in DOT, for Graphviz: an edge to each dependency, heads with a thick border'
 complete -c textpeer -n '__textpeer_does graph; and test (__textpeer_place) -eq 1' -F
+complete -c textpeer -n '__textpeer_does graph; and not __fish_contains_opt explain' -l explain -d 'says below a refusal which file it is about and what to do, as always on a terminal'
 complete -c textpeer -n '__textpeer_does graph; and not __fish_contains_opt -s h help' -s h -l help -d 'Print help'
 complete -c textpeer -n __fish_use_subcommand -a diff -d 'Prints which lines of an earlier text became which of a later one, as what was typed and deleted says'
 complete -c textpeer -n '__textpeer_does diff; and test (__textpeer_place) -eq 1' -F
 complete -c textpeer -n '__textpeer_does diff; and test (__textpeer_place) -ge 2' -k -a '(__textpeer_changes)'
 complete -c textpeer -n '__textpeer_does diff; and not __fish_contains_opt to' -l to -x -d 'a head of the later text, once for each; as it is now if left out'
+complete -c textpeer -n '__textpeer_does diff; and not __fish_contains_opt explain' -l explain -d 'says below a refusal which file it is about and what to do, as always on a terminal'
 complete -c textpeer -n '__textpeer_does diff; and not __fish_contains_opt -s h help' -s h -l help -d 'Print help'
 complete -c textpeer -n __fish_use_subcommand -a status -d 'Prints what a journal has: document, changes, authors, characters, heads, bytes; and who has it open'
 complete -c textpeer -n '__textpeer_does status; and test (__textpeer_place) -eq 1' -F
+complete -c textpeer -n '__textpeer_does status; and not __fish_contains_opt explain' -l explain -d 'says below a refusal which file it is about and what to do, as always on a terminal'
 complete -c textpeer -n '__textpeer_does status; and not __fish_contains_opt -s h help' -s h -l help -d 'Print help'
 complete -c textpeer -n __fish_use_subcommand -a cursor -d 'Prints where a character of the text at earlier heads stands now'
 complete -c textpeer -n '__textpeer_does cursor; and test (__textpeer_place) -eq 1' -F
 complete -c textpeer -n '__textpeer_does cursor; and test (__textpeer_place) -ge 3' -k -a '(__textpeer_changes)'
+complete -c textpeer -n '__textpeer_does cursor; and not __fish_contains_opt explain' -l explain -d 'says below a refusal which file it is about and what to do, as always on a terminal'
 complete -c textpeer -n '__textpeer_does cursor; and not __fish_contains_opt -s h help' -s h -l help -d 'Print help'
 complete -c textpeer -n __fish_use_subcommand -a check -d 'Says how much of a journal is kept, and what stands behind that: a fault with its place, and whole changes'
 complete -c textpeer -n '__textpeer_does check; and test (__textpeer_place) -eq 1' -F
+complete -c textpeer -n '__textpeer_does check; and not __fish_contains_opt explain' -l explain -d 'says below a refusal which file it is about and what to do, as always on a terminal'
 complete -c textpeer -n '__textpeer_does check; and not __fish_contains_opt -s h help' -s h -l help -d 'Print help'
 complete -c textpeer -n __fish_use_subcommand -a merge -d 'Takes the changes of another journal of the document, and prints how many entered'
 complete -c textpeer -n '__textpeer_does merge; and test (__textpeer_place) -eq 1' -F
 complete -c textpeer -n '__textpeer_does merge; and test (__textpeer_place) -eq 2' -F
 complete -c textpeer -n '__textpeer_does merge; and not __fish_contains_opt key' -l key -x -d 'the key of the random numbers, in 64 hexadecimal digits; from /dev/urandom if left out'
+complete -c textpeer -n '__textpeer_does merge; and not __fish_contains_opt explain' -l explain -d 'says below a refusal which file it is about and what to do, as always on a terminal'
 complete -c textpeer -n '__textpeer_does merge; and not __fish_contains_opt -s h help' -s h -l help -d 'Print help'
 complete -c textpeer -n __fish_use_subcommand -a save -d 'Writes the document of a journal as a saved file'
 complete -c textpeer -n '__textpeer_does save; and test (__textpeer_place) -eq 1' -F
 complete -c textpeer -n '__textpeer_does save; and test (__textpeer_place) -eq 2' -F
+complete -c textpeer -n '__textpeer_does save; and not __fish_contains_opt explain' -l explain -d 'says below a refusal which file it is about and what to do, as always on a terminal'
 complete -c textpeer -n '__textpeer_does save; and not __fish_contains_opt -s h help' -s h -l help -d 'Print help'
 complete -c textpeer -n __fish_use_subcommand -a load -d 'Makes a journal of a saved file'
 complete -c textpeer -n '__textpeer_does load; and test (__textpeer_place) -eq 1' -F
 complete -c textpeer -n '__textpeer_does load; and test (__textpeer_place) -eq 2' -F
+complete -c textpeer -n '__textpeer_does load; and not __fish_contains_opt explain' -l explain -d 'says below a refusal which file it is about and what to do, as always on a terminal'
 complete -c textpeer -n '__textpeer_does load; and not __fish_contains_opt -s h help' -s h -l help -d 'Print help'
 complete -c textpeer -n __fish_use_subcommand -a recover -d 'Makes a journal of all that can be had of a damaged one, and says how many changes came and from which bytes none did'
 complete -c textpeer -n '__textpeer_does recover; and test (__textpeer_place) -eq 1' -F
 complete -c textpeer -n '__textpeer_does recover; and test (__textpeer_place) -eq 2' -F
+complete -c textpeer -n '__textpeer_does recover; and not __fish_contains_opt explain' -l explain -d 'says below a refusal which file it is about and what to do, as always on a terminal'
 complete -c textpeer -n '__textpeer_does recover; and not __fish_contains_opt -s h help' -s h -l help -d 'Print help'
 complete -c textpeer -n __fish_use_subcommand -a show -d 'Prints the text that a log of changes makes'
 complete -c textpeer -n '__textpeer_does show; and test (__textpeer_place) -eq 1' -F
+complete -c textpeer -n '__textpeer_does show; and not __fish_contains_opt explain' -l explain -d 'says below a refusal which file it is about and what to do, as always on a terminal'
 complete -c textpeer -n '__textpeer_does show; and not __fish_contains_opt -s h help' -s h -l help -d 'Print help'
 complete -c textpeer -n __fish_use_subcommand -a simulate -d 'Runs a script of peers that edit, exchange and crash, and prints a line for each line of it'
 complete -c textpeer -n '__textpeer_does simulate; and test (__textpeer_place) -eq 1' -F
+complete -c textpeer -n '__textpeer_does simulate; and not __fish_contains_opt explain' -l explain -d 'says below a refusal which file it is about and what to do, as always on a terminal'
 complete -c textpeer -n '__textpeer_does simulate; and not __fish_contains_opt -s h help' -s h -l help -d 'Print help'
 complete -c textpeer -n __fish_use_subcommand -a serve -d 'Serves a journal: prints the port once it listens, then holds sessions until it is ended'
 complete -c textpeer -n '__textpeer_does serve; and test (__textpeer_place) -eq 1' -F
@@ -121,6 +139,7 @@ complete -c textpeer -n '__textpeer_does serve; and not __fish_contains_opt work
 complete -c textpeer -n '__textpeer_does serve; and not __fish_contains_opt patience' -l patience -x -d 'how long the other side may say nothing, in seconds to 86400; then its session ends. For ever if 0 [default: 30]'
 complete -c textpeer -n '__textpeer_does serve; and not __fish_contains_opt verbose' -l verbose -d 'prints a line on the standard error for each session as it ends'
 complete -c textpeer -n '__textpeer_does serve; and not __fish_contains_opt key' -l key -x -d 'the key of the random numbers, in 64 hexadecimal digits; from /dev/urandom if left out'
+complete -c textpeer -n '__textpeer_does serve; and not __fish_contains_opt explain' -l explain -d 'says below a refusal which file it is about and what to do, as always on a terminal'
 complete -c textpeer -n '__textpeer_does serve; and not __fish_contains_opt -s h help' -s h -l help -d 'Print help'
 complete -c textpeer -n __fish_use_subcommand -a sync -d 'Exchanges changes with a server of the document, and prints how many entered here'
 complete -c textpeer -n '__textpeer_does sync; and test (__textpeer_place) -eq 1' -F
@@ -128,15 +147,18 @@ complete -c textpeer -n '__textpeer_does sync; and not __fish_contains_opt follo
 complete -c textpeer -n '__textpeer_does sync; and not __fish_contains_opt sessions' -l sessions -x -d 'with --follow: how many sessions are held; then it ends. If left out it goes on until it is ended'
 complete -c textpeer -n '__textpeer_does sync; and not __fish_contains_opt patience' -l patience -x -d 'how long the other side may say nothing, in seconds to 86400; then its session ends. For ever if 0 [default: 30]'
 complete -c textpeer -n '__textpeer_does sync; and not __fish_contains_opt key' -l key -x -d 'the key of the random numbers, in 64 hexadecimal digits; from /dev/urandom if left out'
+complete -c textpeer -n '__textpeer_does sync; and not __fish_contains_opt explain' -l explain -d 'says below a refusal which file it is about and what to do, as always on a terminal'
 complete -c textpeer -n '__textpeer_does sync; and not __fish_contains_opt -s h help' -s h -l help -d 'Print help'
 complete -c textpeer -n __fish_use_subcommand -a session -d 'Holds one session over the standard input and output, and says on the standard error how many changes entered here. It waits for the other side without a bound'
 complete -c textpeer -n '__textpeer_does session; and test (__textpeer_place) -eq 1' -F
 complete -c textpeer -n '__textpeer_does session; and not __fish_contains_opt client' -l client -d 'holds the client'\''s side; the server'\''s if left out'
 complete -c textpeer -n '__textpeer_does session; and not __fish_contains_opt key' -l key -x -d 'the key of the random numbers, in 64 hexadecimal digits; from /dev/urandom if left out'
+complete -c textpeer -n '__textpeer_does session; and not __fish_contains_opt explain' -l explain -d 'says below a refusal which file it is about and what to do, as always on a terminal'
 complete -c textpeer -n '__textpeer_does session; and not __fish_contains_opt -s h help' -s h -l help -d 'Print help'
 complete -c textpeer -n __fish_use_subcommand -a web -d 'Shows a journal as a page, in whose windows several people write: prints its address, and serves it until it is ended'
 complete -c textpeer -n '__textpeer_does web; and test (__textpeer_place) -eq 1' -F
 complete -c textpeer -n '__textpeer_does web; and not __fish_contains_opt serve' -l serve -x -d 'serves the journal beside the page too, at this address, as IP:PORT or HOST:PORT, and prints the port'
 complete -c textpeer -n '__textpeer_does web; and not __fish_contains_opt follow' -l follow -x -d 'exchanges changes each second with the server at this address, as IP:PORT or HOST:PORT'
 complete -c textpeer -n '__textpeer_does web; and not __fish_contains_opt key' -l key -x -d 'the key of the random numbers, in 64 hexadecimal digits; from /dev/urandom if left out'
+complete -c textpeer -n '__textpeer_does web; and not __fish_contains_opt explain' -l explain -d 'says below a refusal which file it is about and what to do, as always on a terminal'
 complete -c textpeer -n '__textpeer_does web; and not __fish_contains_opt -s h help' -s h -l help -d 'Print help'
