@@ -101,7 +101,7 @@ enum tp_status {
 
     /* of a peer on its journal */
     TP_PEER_ACTOR_IN_USE = 501, /* the journal has a change of this actor: draw another one */
-    /* the journal's device failed in this call, and the editor has stopped: close it and open the file again: */
+    /* the journal can't be written or was moved, replaced or cut: close it, put it back or make room, open it anew: */
     TP_PEER_JOURNAL_FAILED = 502,
     TP_PEER_STOPPED = 503, /* the editor has stopped since its journal failed: close it and open the file again */
     TP_PEER_TOO_MANY_LINKS = 504, /* there are as many links as there may be */
@@ -254,7 +254,7 @@ static inline const char *tp_status_words(uint32_t status)
     case TP_CHANGE_OUT_OF_MEMORY: return "memory was refused";
     case TP_CHANGE_NO_RUN: return "the version of the change is 2, and it has no run of deletes";
     case TP_PEER_ACTOR_IN_USE: return "the journal has a change of this actor: draw another one";
-    case TP_PEER_JOURNAL_FAILED: return "the journal's device failed in this call, and the editor has stopped: close it and open the file again";
+    case TP_PEER_JOURNAL_FAILED: return "the journal can't be written or was moved, replaced or cut: close it, put it back or make room, open it anew";
     case TP_PEER_STOPPED: return "the editor has stopped since its journal failed: close it and open the file again";
     case TP_PEER_TOO_MANY_LINKS: return "there are as many links as there may be";
     case TP_PEER_JOURNAL_NOT_EMPTY: return "the file has a journal or other bytes already";
@@ -433,8 +433,10 @@ uint32_t tp_receive(tp_handle *handle, size_t link, const uint8_t *bytes, size_t
  * `textpeer` command has that may write the file; each change is on the disk before the call that made it is done, and before a
  * session answers for it. The calls above take it too, and those below take a handle in memory: some have two names.
  *
- * After TP_PEER_JOURNAL_FAILED (502) an editor edits and exchanges no more: such calls are refused as 503. What it
- * has is still read; close it, and open it under another actor.
+ * TP_PEER_JOURNAL_FAILED (502) says that the journal can't be written any more, or that its path doesn't lead to it any more,
+ * since the file was moved, removed, replaced or cut. What the call was given isn't kept then for sure. From then on the editor
+ * edits and exchanges no more: such calls are refused as 503. What it has is still read; close it, put the file back or make
+ * room, and open it under another actor.
  */
 
 typedef tp_handle tp_shared;
