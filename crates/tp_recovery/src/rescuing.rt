@@ -216,7 +216,7 @@ fn to_look_through<'a, S: Sequence>(
     bytes: &'a [u8],
     rest: &'a [u8],
 ) -> &'a [u8]
-    requires { 8 ≤ length bytes.now }
+    requires header { 8 ≤ length bytes.now }
     requires rest { length rest.now ≤ length bytes.now }
     ensures looks { LooksIn bytes.now document.now.applied rest.now result.now }
     ensures few { length result.now ≤ length bytes.now }
