@@ -40,7 +40,7 @@ pub(crate) const LEFT_OUT: &str =
 
 /// What is said where files to recover have identifiers that differ.
 pub(crate) const OTHER_HEADER: &str =
-    "a file of --with is of another document, as its header says; nothing was made. If it is of this one all the same, give what follows its first 24 bytes";
+    "a file of --with is of another document, as its header says; nothing was made. If it is of this one all the same, give what follows its first 8 bytes";
 
 /// What is said where a journal isn't made, and other files are read for it.
 pub(crate) const NOT_RESCUED: &str =
