@@ -95,7 +95,7 @@ save_shape = with_rules (codes "save") (file_rule ∷ required_rule (codes "OUT"
 abbrev pub load_shape : Shape
 load_shape = with_rules (codes "load") (required_rule (codes "SAVED") ∷ file_rule ∷ [])
 
--- `recover FILE`, and `OUT` or `--texts`, `[--with FILE ..]`; of the two the rules ask for none
+-- `recover FILE`, and `OUT` or `--texts`, `[--with OTHER]`, also several times; of the two the rules ask for none
 abbrev pub recover_shape : Shape
 recover_shape = with_rules (codes "recover")
     (file_rule ∷ optional_rule (codes "OUT") ∷ options_rule (codes "with") ∷ flag_rule (codes "texts") ∷ [])

@@ -615,7 +615,7 @@ fn other_file<'a>(alloc: Global) -> Arg<'a>
     option(
         alloc,
         "with",
-        "FILE",
+        "OTHER",
         "another file whose whole changes enter too, once for each: what was cut off, or a copy of the journal",
     )
     .action(ArgAction::Append)
