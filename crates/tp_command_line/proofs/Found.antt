@@ -41,16 +41,17 @@ value_of name id rows found has = let given = always_given name id rows found ha
 
 -- what reads a number takes numbers alone
 number_parser : (id : Text) → is_number id ≡ true → (low high : ℕ) × (parser_named id ≡ parser.Unsigned low high)
-number_parser id is = go (is_numeric id) (bytes_eq (codes "workers") id) (bytes_eq (codes "patience") id) (bytes_eq (codes "follow") id) is
+number_parser id is = go (is_numeric id) (bytes_eq (codes "workers") id) (bytes_eq (codes "patience") id) (bytes_eq (codes "wait") id) (bytes_eq (codes "follow") id) is
   where
-    go : (numeric workers patience follow : Bool) → (numeric || workers || patience || follow) ≡ true
-        → (low high : ℕ) × ((if numeric then numbers else if workers then few else if patience then waiting else if follow then pausing
+    go : (numeric workers patience wait follow : Bool) → (numeric || workers || patience || follow || wait) ≡ true
+        → (low high : ℕ) × ((if numeric then numbers else if workers then few else if patience then waiting else if wait then waiting else if follow then pausing
         else if is_flag id then parser.Bool else parser.String) ≡ parser.Unsigned low high)
-    go true w p f any = (_, _, refl)
-    go false true p f any = (_, _, refl)
-    go false false true f any = (_, _, refl)
-    go false false false true any = (_, _, refl)
-    go false false false false any = absurd (cc)
+    go true w p l f any = (_, _, refl)
+    go false true p l f any = (_, _, refl)
+    go false false true l f any = (_, _, refl)
+    go false false false true f any = (_, _, refl)
+    go false false false false true any = (_, _, refl)
+    go false false false false false any = absurd (cc)
 
 -- a value that it takes is a number
 number_taken : (id text : Text) → is_number id ≡ true → accepts false (parser_named id) text ≡ true → (n : ℕ) × IsNumber text n

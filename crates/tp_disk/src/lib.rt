@@ -8,6 +8,7 @@ mod folders;
 mod keys;
 mod locks;
 mod replacing;
+mod waiting;
 
 pub use cutting::is_cut;
 pub use files::{Cause, Disk, Opened};

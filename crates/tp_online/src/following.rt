@@ -28,6 +28,8 @@ pub struct Following<'a> {
     pub every: Duration,
     /// How long the server may say nothing.
     pub patience: Option<Duration>,
+    /// For how many seconds the lock of the journal is waited for.
+    pub wait: u64,
 }
 
 // Whether a session may be held later that was refused now: the server is away, or another has the journal.
@@ -66,7 +68,7 @@ fn meet<R: Disk + Net + AllocGlobal>(
     ensures cuts { MayCutFile (R.saw rt.now) file.now cut.new }
     ensures met { IfOk result (MayMeet (R.saw rt.now) file.now key) }
 {
-    match applied_by(rt, file, how.addr, how.patience, key, cut) {
+    match applied_by(rt, file, how.addr, how.patience, key, how.wait, cut) {
         Ok(met) => {
             let Met { peer, applied } = met;
             drop(peer);

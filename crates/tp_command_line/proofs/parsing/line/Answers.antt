@@ -20,6 +20,12 @@ returns-clause-fails g c =
     (parsed_of _ _ c.in_ok-matches.matches c.in_ok-textpeer_command.ensures ok.matches ok.kinds).no_fault
 
 -- the rows are a use of the subcommand
+pub number_in-requires-is_use : goal.number_in-requires-is_use
+number_in-requires-is_use g c =
+    let ok = c.in_ok-matches.ensures in
+    let parsed = parsed_of _ _ c.in_ok-matches.matches c.in_ok-textpeer_command.ensures ok.matches ok.kinds in
+    (use_found _ _ c.subcommand.result c.unwrap.result parsed c.unwrap.ensures c.subcommand.ensures.name c.subcommand.ensures.rows).1
+
 pub job_of-requires : goal.job_of-requires
 job_of-requires g c =
     let ok = c.in_ok-matches.ensures in
@@ -32,6 +38,13 @@ returns-clause-job g c =
     let parsed = parsed_of _ _ c.in_ok-matches.matches c.in_ok-textpeer_command.ensures ok.matches ok.kinds in
     let found = use_found _ _ c.subcommand.result c.unwrap.result parsed c.unwrap.ensures c.subcommand.ensures.name c.subcommand.ensures.rows in
     (c.unwrap.result.0.now, rows_of (found_of c.unwrap.result.1.now), found.0, c.in_ok-job_of.ensures.ok)
+
+pub returns-clause-waits : goal.returns-clause-waits
+returns-clause-waits g c =
+    let ok = c.in_ok-matches.ensures in
+    let parsed = parsed_of _ _ c.in_ok-matches.matches c.in_ok-textpeer_command.ensures ok.matches ok.kinds in
+    let found = use_found _ _ c.subcommand.result c.unwrap.result parsed c.unwrap.ensures c.subcommand.ensures.name c.subcommand.ensures.rows in
+    (c.unwrap.result.0.now, rows_of (found_of c.unwrap.result.1.now), found.0, c.number_in.ensures)
 
 -- words that ask to show a path get that path
 pub returns-clause-shows : goal.returns-clause-shows
