@@ -40,7 +40,8 @@ pub fn line<'a, S: AsStr>(alloc: Global, words: &'a [S]) -> Result<Wanted<'a>, L
 {
     let matches = textpeer_command(alloc)?.try_get_matches_from(words)?;
     let (name, found) = matches.subcommand().unwrap();
-    let wait = number_in(found, name, "wait");
-    let job = job_of(alloc, name, found)?;
-    Ok(Wanted { job, wait })
+    Ok(Wanted {
+        wait: number_in(found, name, "wait"),
+        job: job_of(alloc, name, found)?,
+    })
 }

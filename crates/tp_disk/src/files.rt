@@ -11,6 +11,7 @@ ghost use Rattle.tp_disk.specs.Opening.{CutsJournal, KeepsTail};
 use crate::cutting::keep_cut;
 use crate::folders::{Folders, is_of_system};
 use crate::locks::{FileId, lock_in};
+use crate::stamps::Stamp;
 use crate::waiting::{locked_journal, locked_recovery};
 use std::fs::{OpenFile, OpenOptions};
 use std::io::{ErrorKind, Read, Seek, Write};
@@ -117,6 +118,22 @@ pub trait Disk: Folders {
             × (o.recovered.document.waiting ≡ [])) }
         ensures cuts { IfOk result
             (λ o. CutsJournal (Self.saw self.now) path.now o.journal.file.content o.cut) };
+
+    /// By what the file at the path is known, as far as the system says now.
+    fn stamp(&self, path: &str) -> Option<Stamp>;
+
+    /// The journal in a file, as [`make_journal`](Disk::make_journal) gives it, where the file is as the stamp says: one that was
+    /// changed is refused as `Io`, and so is an absent one.
+    fn resume(
+        &self,
+        path: &str,
+        stamp: &Stamp,
+        wait: u64,
+    ) -> Result<DurableJournal<Self::File>, CommandError>
+        ensures taken { IfOk result
+            (λ j. Self.saw self.now (WasLocked path.now j.file.content)) }
+        ensures busy { IfErr result
+            (λ e. e ≡ Busy → Self.saw self.now (WasRefused path.now (tries_in wait))) };
 
     /// The journal that was taken from the path was left with what is in it, and all of that is on the disk.
     fn leave(
@@ -264,6 +281,28 @@ where
         self.check_journal(path)?;
         let (journal, recovery) = locked_recovery(self, path, wait)?;
         opened_journal(self, path, journal, recovery)
+    }
+
+    fn stamp(&self, path: &str) -> Option<Stamp> {
+        match fs::metadata(self, path) {
+            Ok(found) => Some(Stamp::of(&found)),
+            Err(_) => None,
+        }
+    }
+
+    fn resume(
+        &self,
+        path: &str,
+        stamp: &Stamp,
+        wait: u64,
+    ) -> Result<DurableJournal<R::File>, CommandError> {
+        let journal = locked_journal(self, path, false, wait)?;
+        if self.stamp(path) == Some(*stamp) {
+            Ok(journal)
+        } else {
+            drop(journal);
+            Err(CommandError::Io)
+        }
     }
 
     fn leave(

@@ -16,16 +16,15 @@ use tp_journal::{DurableJournal, Lockable, OpenError};
 const A_SECOND: u64 = 4;
 
 /// What is tried again while another has the lock.
-///
-/// Contracts see how many tries found that another has it.
 trait Attempt {
     /// What is had with the lock.
     type Opened: Drop;
 
+    /// How many tries found that another has the lock.
     ghost refused: { Self → ℕ };
 
     /// What is said of what is had.
-    ghost gives: { Self → Self::Opened → Type 0 };
+    ghost gives: { Self → Self.Opened → Type 0 };
 
     /// Tries it once.
     fn once(&mut self) -> Result<Self::Opened, OpenError>
