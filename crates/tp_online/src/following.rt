@@ -10,7 +10,8 @@ ghost use Rattle.tp_online.specs.Sessions.{HasMet, IsIdle, ReportsEach, IsFollow
 ghost use Rattle.tp_session.specs.declared.session.Role.TheVariants.{Client};
 
 use crate::idling::{Between, idle_peer, meet_idle};
-use crate::serving::{Met, applied_by, applied_over, reach_there};
+use crate::listening::open_peer;
+use crate::serving::{Met, applied_by, reach_there};
 use std::alloc::Global;
 use std::io::Write;
 use std::net::Net;
@@ -18,8 +19,10 @@ use std::thread;
 use std::time::{Clock, Duration};
 use tp_command_line::Address;
 use tp_commands::CommandError;
-use tp_disk::{Disk, left_stamp};
+use tp_disk::{Disk, draw_actor, left_stamp};
+use tp_net::hold_alone_on;
 use tp_report::{JobError, applied_text, put, report};
+use tp_session::Role;
 
 /// Whom one follows, and how.
 #[derive(Drop)]
@@ -54,6 +57,33 @@ fn tell_met<W: Write>(alloc: Global, applied: u64, out: &mut W) -> Result<(), Jo
     match applied {
         0 => Ok(()),
         applied => put(out, applied_text(alloc, Some(applied))),
+    }
+}
+
+// Holds one session over the stream, which leads to the server, of the peer that is opened for it.
+fn applied_over<R: Disk + Net + AllocGlobal>(
+    rt: &R,
+    file: &str,
+    stream: R::Stream,
+    patience: Option<Duration>,
+    key: Option<[u8; 32]>,
+    wait: u64,
+    cut: &mut Option<u64>,
+) -> Result<Met<R::File>, JobError>
+    requires { cut.old ≡ None }
+    ensures cuts { OnOk result (CutsFile (R.saw rt.now) file.now cut.new) }
+    ensures may_cut { OnErr result (MayCutFile (R.saw rt.now) file.now cut.new) }
+    ensures met { IfOk result
+        (λ met. HasMet (R.saw rt.now) file.now key Client met.applied met.peer) }
+{
+    let actor = draw_actor(rt, key)?;
+    let mut peer = open_peer(rt, file, actor, wait, cut)?;
+    match hold_alone_on(rt.alloc(), stream, patience, Role::Client, &mut peer) {
+        Ok(applied) => Ok(Met { peer, applied }),
+        Err(error) => {
+            drop(peer);
+            Err(JobError::from(error))
+        }
     }
 }
 

@@ -340,33 +340,6 @@ pub(crate) fn applied_by<R: Disk + Net + AllocGlobal>(
     }
 }
 
-/// Holds one session over the stream, which leads to the server, of the peer that is opened for it.
-pub(crate) fn applied_over<R: Disk + Net + AllocGlobal>(
-    rt: &R,
-    file: &str,
-    stream: R::Stream,
-    patience: Option<Duration>,
-    key: Option<[u8; 32]>,
-    wait: u64,
-    cut: &mut Option<u64>,
-) -> Result<Met<R::File>, JobError>
-    requires { cut.old ≡ None }
-    ensures cuts { OnOk result (CutsFile (R.saw rt.now) file.now cut.new) }
-    ensures may_cut { OnErr result (MayCutFile (R.saw rt.now) file.now cut.new) }
-    ensures met { IfOk result
-        (λ met. HasMet (R.saw rt.now) file.now key Client met.applied met.peer) }
-{
-    let actor = draw_actor(rt, key)?;
-    let mut peer = open_peer(rt, file, actor, wait, cut)?;
-    match hold_alone_on(rt.alloc(), stream, patience, Role::Client, &mut peer) {
-        Ok(applied) => Ok(Met { peer, applied }),
-        Err(error) => {
-            drop(peer);
-            Err(JobError::from(error))
-        }
-    }
-}
-
 /// Holds one session with the server at the address, within the patience, and prints how many changes entered by it. The peer
 /// is given back.
 pub fn sync_file<R: Disk + Net + AllocGlobal, W: Write>(
