@@ -218,7 +218,7 @@ IsJobOf name rows (Web file hosting key) = (name ≡ codes "web") × HasText (co
 abbrev pub IsFoundAs : Option (Text × List Row) → Job → Type 0
 IsFoundAs found job = (name : Text) × (rows : List Row) × (found ≡ Some (name, rows)) × IsJobOf name rows job
 
--- for so many seconds the lock of a journal is waited for: as the subcommand that was found says, where it has that option
+-- for that many seconds the lock of a journal is waited for: as the subcommand that was found says, where it has that option
 abbrev pub WaitsAs : Option (Text × List Row) → Option ℕ → Type 0
 WaitsAs found wait = (name : Text) × (rows : List Row) × (found ≡ Some (name, rows)) × MayHaveNumber (codes "wait") rows wait
 

@@ -3,7 +3,7 @@ use Rattle.std.specs.Prelude.{◌+◌, ◌*◌, ◌-◌, ◌^◌, ℕ, min, Resu
 use Rattle.tp_journal.specs.declared.opening.OpenError.{OpenError}
 use Rattle.tp_journal.specs.declared.opening.OpenError.TheVariants.{Busy, Io, OutOfMemory}
 
--- how many tries there are at most in so many seconds: four each second, up to 2^64 - 1, and one more
+-- how many tries there are at most in that many seconds: four each second, up to 2^64 - 1, and one more
 abbrev pub tries_in : ℕ → ℕ
 tries_in seconds = min (4 * seconds) (2 ^ 64 - 1) + 1
 

@@ -37,7 +37,7 @@ fn pause<C: Clock>(clock: &C) {
     thread::sleep(clock, Duration::from_millis(1000 / A_SECOND));
 }
 
-// Tries it until no other has the lock, four times a second, and for no longer than so many seconds; once where they are
+// Tries it until no other has the lock, four times a second, and for no longer than that many seconds; once where they are
 // none. `Busy` is the answer of the last try.
 fn try_for<C: Clock, A: Attempt>(
     clock: &C,
@@ -119,7 +119,7 @@ where
     }
 }
 
-/// The journal in the file, once no other has its lock, which is waited for so many seconds. An absent file is made where
+/// The journal in the file, once no other has its lock, which is waited for that many seconds. An absent file is made where
 /// that is asked for.
 pub(crate) fn locked_journal<R: Files + Clock + AllocGlobal>(
     rt: &R,

@@ -28,7 +28,7 @@ pub(crate) struct Listening<L: Drop, F: Write + OpenFile + Drop> {
     pub peer: Peer<DurableJournal<F>>,
 }
 
-/// The peer on the journal in the file, whose lock is waited for so many seconds, and from which offset on what was cut off it is
+/// The peer on the journal in the file, whose lock is waited for that many seconds, and from which offset on what was cut off it is
 /// kept.
 pub(crate) fn open_peer<R: Disk + AllocGlobal>(
     rt: &R,
