@@ -53,17 +53,25 @@ fn try_for<C: Clock, A: Attempt>(
     let mut refused = 0;
     while refused < pauses {
         match attempt.once() {
+            Ok(opened) => return Ok(opened),
             Err(OpenError::Busy) => {
                 refused += 1;
                 pause(clock);
             }
-            opened => return opened,
+            Err(OpenError::Io) => return Err(OpenError::Io),
+            Err(OpenError::OutOfMemory) => return Err(OpenError::OutOfMemory),
         }
     }
-    attempt.once()
+    match attempt.once() {
+        Ok(opened) => Ok(opened),
+        Err(OpenError::Busy) => Err(OpenError::Busy),
+        Err(OpenError::Io) => Err(OpenError::Io),
+        Err(OpenError::OutOfMemory) => Err(OpenError::OutOfMemory),
+    }
 }
 
 // The journal in the file at a path, which is made where that is asked for.
+#[derive(Drop)]
 struct JournalAt<'a, R> {
     rt: &'a R,
     path: &'a str,
@@ -82,15 +90,20 @@ where
     ghost gives = { λ _ _. Unit {0} };
 
     fn once(&mut self) -> Result<DurableJournal<R::File>, OpenError> {
-        let opened = DurableJournal::at(self.rt, self.rt.alloc(), self.path, self.makes);
-        if let Err(OpenError::Busy) = opened {
-            self.refused = GhostBytes::with(&self.refused, &[0]);
+        match DurableJournal::at(self.rt, self.rt.alloc(), self.path, self.makes) {
+            Ok(journal) => Ok(journal),
+            Err(OpenError::Busy) => {
+                self.refused = GhostBytes::with(&self.refused, &[0]);
+                Err(OpenError::Busy)
+            }
+            Err(OpenError::Io) => Err(OpenError::Io),
+            Err(OpenError::OutOfMemory) => Err(OpenError::OutOfMemory),
         }
-        opened
     }
 }
 
 // The journal in the file at a path, with what it recovers to.
+#[derive(Drop)]
 struct RecoveryAt<'a, R> {
     rt: &'a R,
     path: &'a str,
@@ -111,11 +124,15 @@ where
         × IfOk opened.1 (λ r. HasTail opened.0.file.content r.keep r.tail.items) };
 
     fn once(&mut self) -> Result<(DurableJournal<R::File>, Recovery), OpenError> {
-        let opened = DurableJournal::recovering(self.rt, self.rt.alloc(), self.path, false);
-        if let Err(OpenError::Busy) = opened {
-            self.refused = GhostBytes::with(&self.refused, &[0]);
+        match DurableJournal::recovering(self.rt, self.rt.alloc(), self.path, false) {
+            Ok(opened) => Ok(opened),
+            Err(OpenError::Busy) => {
+                self.refused = GhostBytes::with(&self.refused, &[0]);
+                Err(OpenError::Busy)
+            }
+            Err(OpenError::Io) => Err(OpenError::Io),
+            Err(OpenError::OutOfMemory) => Err(OpenError::OutOfMemory),
         }
-        opened
     }
 }
 

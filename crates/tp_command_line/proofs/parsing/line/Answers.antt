@@ -26,8 +26,8 @@ returns-clause-fails g c =
     (parsed_of _ _ c.in_ok-matches.matches c.in_ok-textpeer_command.ensures ok.matches ok.kinds).no_fault
 
 -- the rows are a use of the subcommand
-pub number_in-requires-is_use : goal.number_in-requires-is_use
-number_in-requires-is_use g c =
+pub number_in-requires-clause-is_use : goal.number_in-requires-clause-is_use
+number_in-requires-clause-is_use g c =
     let ok = c.in_ok-matches.ensures in
     let parsed = parsed_of _ _ c.in_ok-matches.matches c.in_ok-textpeer_command.ensures ok.matches ok.kinds in
     (use_found _ _ c.subcommand.result c.unwrap.result parsed c.unwrap.ensures c.subcommand.ensures.name c.subcommand.ensures.rows).1
