@@ -38,7 +38,7 @@ _textpeer() {
     merge) values=(file file) options='--key --explain -h --help' takes='--key' ;;
     save) values=(file file) options='--explain -h --help' ;;
     load) values=(file file) options='--explain -h --help' ;;
-    recover) values=(file file) options='--explain -h --help' ;;
+    recover) values=(file file) options='--with --texts --explain -h --help' takes='--with' ;;
     show) values=(file) options='--explain -h --help' ;;
     simulate) values=(file) options='--explain -h --help' ;;
     serve) values=(file other) options='--sessions --workers --patience --verbose --key --explain -h --help' takes='--sessions --workers --patience --key' ;;
