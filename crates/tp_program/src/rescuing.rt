@@ -391,7 +391,7 @@ fn with_more(changes: Vec<Change>, more: Vec<Change>) -> Result<Vec<Change>, Com
 }
 
 // The journal of what is in a damaged one, which has as many bytes as `to`, and in other files.
-fn rescued(
+fn rescued_journal(
     alloc: Global,
     found: Inspection<PeerSequence>,
     to: u64,
@@ -457,5 +457,5 @@ pub(crate) fn rescue_report(
         drop(found);
         return Err(CommandError::Doc(DocError::OtherDocument));
     }
-    rescued(alloc, found, bytes.len() as u64, more, ids)
+    rescued_journal(alloc, found, bytes.len() as u64, more, ids)
 }

@@ -1,7 +1,7 @@
 use Rattle.std.proofs.Common.{◌∙◌}
 use Rattle.std.specs.String.{string_bytes}
 use Rattle.tp_program.proofs.RescueLaws.{had_of_all}
-use Rattle.tp_program.proofs.rescuing.rescued.Goals as goal
+use Rattle.tp_program.proofs.rescuing.rescued_journal.Goals as goal
 
 pub returns-in-Ok : goal.returns-in-Ok
 returns-in-Ok c =
