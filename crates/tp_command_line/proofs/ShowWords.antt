@@ -150,14 +150,14 @@ only_memory a path words e is ask has =
     ⊎_elim (λ m. m) (λ past. absurd past) as_none
 
 -- that memory ran out is passed up
-pub passed_up : (path : Text) (r : Result Job LineError) (e : Error) → IsErrAnd r (IsPassedAs e) → kind_of e ≡ kind.OutOfMemory → MatchResult r (IsShow path) (λ y. y ≡ Value OutOfMemory)
-passed_up path (Ok job) e is memory = absurd is
-passed_up path (Err (Request y)) e is memory = ⊎_elim (λ h. absurd (cc)) (λ v. absurd (cc)) is.1
-passed_up path (Err (Fault y)) e is memory = absurd (is.1 memory)
-passed_up path (Err (Value y)) e is memory = ap Value is.0
+pub passed_up : {T : Type 0} (P : T → Type 0) (r : Result T LineError) (e : Error) → IsErrAnd r (IsPassedAs e) → kind_of e ≡ kind.OutOfMemory → MatchResult r P (λ y. y ≡ Value OutOfMemory)
+passed_up P (Ok wanted) e is memory = absurd is
+passed_up P (Err (Request y)) e is memory = ⊎_elim (λ h. absurd (cc)) (λ v. absurd (cc)) is.1
+passed_up P (Err (Fault y)) e is memory = absurd (is.1 memory)
+passed_up P (Err (Value y)) e is memory = ap Value is.0
 
 -- so it is of a value
-pub value_passed : (path : Text) (r : Result Job LineError) (e : ValueError) → IsErrAnd r (λ y. y ≡ Value e) → e ≡ OutOfMemory
-    → MatchResult r (IsShow path) (λ y. y ≡ Value OutOfMemory)
-value_passed path (Ok job) e is memory = absurd is
-value_passed path (Err y) e is memory = is ∙ ap Value memory
+pub value_passed : {T : Type 0} (P : T → Type 0) (r : Result T LineError) (e : ValueError) → IsErrAnd r (λ y. y ≡ Value e) → e ≡ OutOfMemory
+    → MatchResult r P (λ y. y ≡ Value OutOfMemory)
+value_passed P (Ok wanted) e is memory = absurd is
+value_passed P (Err y) e is memory = is ∙ ap Value memory

@@ -16,7 +16,7 @@ use Rattle.clap.specs.declared.builder.value_parser.ValueParser.{ValueParser}
 use Rattle.clap.specs.declared.builder.value_parser.ValueParser.TheVariants as parser
 use Rattle.clap.specs.declared.builder.value_parser.ValueParser.TheVariants.{String}
 use Rattle.tp_command_line.specs.Commands.{textpeer_app}
-use Rattle.tp_command_line.specs.Rules.{few, file_rule, flag_rule, follow_rule, key_rule, list_rule, mandatory, message_rule, most_rule, numbers, numeric, option_rule, optional_rule, options_rule, page_rule, patience_rule, pausing, required_rule, server_rule, sessions_rule, several, time_rule, waiting, workers_rule}
+use Rattle.tp_command_line.specs.Rules.{few, file_rule, flag_rule, follow_rule, key_rule, list_rule, mandatory, message_rule, most_rule, numbers, numeric, option_rule, optional_rule, options_rule, page_rule, patience_rule, pausing, required_rule, server_rule, sessions_rule, several, time_rule, waiting, workers_rule, wait_rule}
 use Rattle.tp_command_line.specs.Uses.{IsUse, always_has, has_default, is_required, shape_named}
 use Rattle.tp_command_line.specs.Values.{parser_named}
 use Rattle.tp_command_line.proofs.Rows.{AllFilled, AllTaken, HasFirst, or_else_none, values_taken, with_values_filled, without_filled}
@@ -159,6 +159,9 @@ workers_sound = single_sound few (placed 2 workers_rule) refl refl refl
 patience_sound : IsSound (placed 2 patience_rule)
 patience_sound = single_sound waiting (placed 2 patience_rule) refl refl refl
 
+wait_sound : IsSound (placed 2 wait_rule)
+wait_sound = single_sound waiting (placed 2 wait_rule) refl refl refl
+
 follow_sound : IsSound (placed 2 follow_rule)
 follow_sound = record { fills = optional_fills pausing (codes "5") (placed 2 follow_rule) refl refl refl; defaults = refl; reading = refl }
 
@@ -249,6 +252,7 @@ all_sound = assumption (
   sessions_sound,
   workers_sound,
   patience_sound,
+  wait_sound,
   follow_sound,
   verbose_sound,
   client_sound,

@@ -78,6 +78,10 @@ waiting = Unsigned 0 86400
 abbrev pub patience_rule : Rule
 patience_rule = record (option_rule (codes "patience")) { parser = Some waiting; defaults = codes "30" ∷ [] }
 
+-- five seconds for a lock where `--wait` is left out
+abbrev pub wait_rule : Rule
+wait_rule = record (option_rule (codes "wait")) { parser = Some waiting; defaults = codes "5" ∷ [] }
+
 -- the address of a page, by its place; this one where it is left out
 abbrev pub page_rule : Rule
 page_rule = record (new_rule (codes "PAGE")) { action = Some Set; defaults = codes "127.0.0.1:7117" ∷ [] }

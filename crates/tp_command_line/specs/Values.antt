@@ -188,9 +188,9 @@ is_flag id = list_any (λ n. bytes_eq n id) (codes "client" ∷ codes "verbose" 
 -- what reads the values of an argument
 abbrev pub parser_named : Text → ValueParser
 parser_named id = if is_numeric id then numbers else if bytes_eq (codes "workers") id then few
-    else if bytes_eq (codes "patience") id then waiting else if bytes_eq (codes "follow") id then pausing
+    else if bytes_eq (codes "patience") id then waiting else if bytes_eq (codes "wait") id then waiting else if bytes_eq (codes "follow") id then pausing
     else if is_flag id then parser.Bool else parser.String
 
 -- the argument has a number as its value
 abbrev pub is_number : Text → Bool
-is_number id = is_numeric id || bytes_eq (codes "workers") id || bytes_eq (codes "patience") id || bytes_eq (codes "follow") id
+is_number id = is_numeric id || bytes_eq (codes "workers") id || bytes_eq (codes "patience") id || bytes_eq (codes "follow") id || bytes_eq (codes "wait") id

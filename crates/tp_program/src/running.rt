@@ -44,10 +44,11 @@ use tp_textpeer::show;
 /// `out`, which is flushed. A refusal writes nothing
 /// to `out`; where `out` itself failed, which is refused as `Io`, or was closed by who read it, it has taken a beginning of
 /// what is printed; the refusal has what a job made whose lines these were. A script is printed line by line as it goes on, and
-/// what was printed before a refusal stays.
+/// what was printed before a refusal stays. The lock of a journal that is written is waited for `wait` seconds.
 pub fn carry_out<D: Disk + AllocGlobal, I: Read, W: Write>(
     rt: &D,
     job: FileJob,
+    wait: u64,
     input: &mut I,
     out: &mut W,
     cut: &mut Option<u64>,
@@ -67,7 +68,7 @@ pub fn carry_out<D: Disk + AllocGlobal, I: Read, W: Write>(
         (WasMade (IsFilesPrinted (D.saw rt.now) job.entry)) }
 {
     match job {
-        FileJob::New { file, key } => put_made(out, new(rt, file, key)),
+        FileJob::New { file, key } => put_made(out, new(rt, file, key, wait)),
         FileJob::Edit {
             file,
             at,
@@ -80,7 +81,9 @@ pub fn carry_out<D: Disk + AllocGlobal, I: Read, W: Write>(
             let place = (at as usize, del as usize);
             put_made(
                 out,
-                edited_by(rt, file, place, text, input, time, message, key, cut),
+                edited_by(
+                    rt, file, place, text, input, time, message, key, wait, cut,
+                ),
             )
         }
         FileJob::Update {
@@ -92,7 +95,9 @@ pub fn carry_out<D: Disk + AllocGlobal, I: Read, W: Write>(
             key,
         } => put_made(
             out,
-            update_text(rt, file, source, &since, input, time, message, key, cut),
+            update_text(
+                rt, file, source, &since, input, time, message, key, wait, cut,
+            ),
         ),
         FileJob::Import {
             file,
@@ -102,7 +107,7 @@ pub fn carry_out<D: Disk + AllocGlobal, I: Read, W: Write>(
             key,
         } => put_made(
             out,
-            import_text(rt, file, source, input, time, message, key, cut),
+            import_text(rt, file, source, input, time, message, key, wait, cut),
         ),
         FileJob::Text {
             file,
@@ -116,9 +121,11 @@ pub fn carry_out<D: Disk + AllocGlobal, I: Read, W: Write>(
         FileJob::Status { file } => put(out, status(rt, file)),
         FileJob::Cursor { file, at, heads } => put(out, cursor(rt, file, at as usize, &heads)),
         FileJob::Check { file } => check_file(rt, file, out),
-        FileJob::Merge { file, other, key } => put(out, merge_files(rt, file, other, key, cut)),
+        FileJob::Merge { file, other, key } => {
+            put(out, merge_files(rt, file, other, key, wait, cut))
+        }
         FileJob::Save { file, out: path } => put(out, save_to(rt, file, path)),
-        FileJob::Load { saved, file } => put(out, load_from(rt, saved, file)),
+        FileJob::Load { saved, file } => put(out, load_from(rt, saved, file, wait)),
         FileJob::Recover {
             file,
             out: Some(made),
@@ -262,6 +269,7 @@ fn new<D: Disk + AllocGlobal>(
     rt: &D,
     file: &str,
     key: Option<[u8; 32]>,
+    wait: u64,
 ) -> Result<(String, Option<Made>), CommandError>
     ensures line { IfOk result (λ p. ChangesFile (D.saw rt.now) file.now
         (λ before after. IsNewLine key before after (string_bytes p.0))) }
@@ -272,7 +280,7 @@ fn new<D: Disk + AllocGlobal>(
     let Actor(drawn) = draw(&mut generator);
     let id = DocId(drawn);
     let actor = draw(&mut generator);
-    let mut journal = begin(rt.alloc(), rt.make_journal(file)?, id, actor)?;
+    let mut journal = begin(rt.alloc(), rt.make_journal(file, wait)?, id, actor)?;
     rt.leave(file, &mut journal)?;
     Ok((id_line(rt.alloc(), &id)?, Some(Made::Document(id))))
 }
@@ -287,6 +295,7 @@ fn edited_by<D: Disk + AllocGlobal, I: Read>(
     time: u64,
     message: &str,
     key: Option<[u8; 32]>,
+    wait: u64,
     cut: &mut Option<u64>,
 ) -> Result<(String, Option<Made>), CommandError>
     requires { cut.old ≡ None }
@@ -304,12 +313,12 @@ fn edited_by<D: Disk + AllocGlobal, I: Read>(
     let (at, del) = place;
     match text {
         Inserted::Given(text) => {
-            edit_file(rt, file, Splice { at, del, text }, time, message, key, cut)
+            edit_file(rt, file, Splice { at, del, text }, time, message, key, wait, cut)
         }
         Inserted::InFile(path) => {
             let bytes = read_input(rt, path, input)?;
             let text = text_in_file(&bytes)?;
-            edit_file(rt, file, Splice { at, del, text }, time, message, key, cut)
+            edit_file(rt, file, Splice { at, del, text }, time, message, key, wait, cut)
         }
     }
 }
@@ -321,6 +330,7 @@ fn edit_file<D: Disk + AllocGlobal>(
     time: u64,
     message: &str,
     key: Option<[u8; 32]>,
+    wait: u64,
     cut: &mut Option<u64>,
 ) -> Result<(String, Option<Made>), CommandError>
     requires { cut.old ≡ None }
@@ -338,7 +348,7 @@ fn edit_file<D: Disk + AllocGlobal>(
         journal,
         recovered,
         cut: kept,
-    } = rt.journal(file)?;
+    } = rt.journal(file, wait)?;
     *cut = kept;
     let opened = (journal, Ok(recovered));
     let (mut journal, made) = edit(rt.alloc(), opened, actor, splice, time, message)?;
@@ -363,6 +373,7 @@ fn merge_files<D: Disk + AllocGlobal>(
     file: &str,
     other: &str,
     key: Option<[u8; 32]>,
+    wait: u64,
     cut: &mut Option<u64>,
 ) -> Result<String, CommandError>
     requires { cut.old ≡ None }
@@ -380,7 +391,7 @@ fn merge_files<D: Disk + AllocGlobal>(
         journal,
         recovered,
         cut: kept,
-    } = rt.journal(file)?;
+    } = rt.journal(file, wait)?;
     *cut = kept;
     let peer = reopen(rt.alloc(), (journal, Ok(recovered)), actor)?;
     match rt.recover(other) {
@@ -502,22 +513,28 @@ fn begin_at<D: Disk + AllocGlobal>(
     rt: &D,
     file: &str,
     document: &Document<PeerSequence>,
+    wait: u64,
 ) -> Result<(), CommandError>
     ensures { OnOk result (ChangesFile (D.saw rt.now) file.now
         (λ before after. BeginsJournal document.now.id document.now.applied before after)) }
 {
-    let mut journal = rt.make_journal(file)?;
+    let mut journal = rt.make_journal(file, wait)?;
     create_journal(rt.alloc(), &mut journal, document)?;
     rt.leave(file, &mut journal)
 }
 
-fn load_from<D: Disk + AllocGlobal>(rt: &D, saved: &str, file: &str) -> Result<String, CommandError>
+fn load_from<D: Disk + AllocGlobal>(
+    rt: &D,
+    saved: &str,
+    file: &str,
+    wait: u64,
+) -> Result<String, CommandError>
     ensures empty { IfOk result (λ l. string_bytes l ≡ []) }
     ensures begun { OnOk result (OfFile (D.saw rt.now) saved.now
         (λ bytes. ChangesFile (D.saw rt.now) file.now (IsLoaded bytes))) }
 {
     let document = load::<PeerSequence>(rt.alloc(), &rt.read(saved)?)?;
-    let begun = begin_at(rt, file, &document);
+    let begun = begin_at(rt, file, &document, wait);
     drop(document);
     begun?;
     Ok(String::new(rt.alloc()))
