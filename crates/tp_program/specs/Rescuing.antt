@@ -168,12 +168,12 @@ abbrev pub changes_of_other : Other → List ChangeParts
 changes_of_other o = o.changes
 
 -- the identifier in its header, where it has one
-abbrev pub ids_of : Option DocId → List DocId
-ids_of None = []
-ids_of (Some id) = id ∷ []
+abbrev pub header_ids : Option DocId → List DocId
+header_ids None = []
+header_ids (Some id) = id ∷ []
 
 abbrev pub ids_of_other : Other → List DocId
-ids_of_other o = ids_of (id_in o.bytes)
+ids_of_other o = header_ids (id_in o.bytes)
 
 -- It was read, and these are its whole records.
 pub record WasSearched (saw : DiskView → Type 0) (o : Other) : Type 0 where
@@ -195,13 +195,13 @@ OfOthers saw paths P = (changes : List ChangeParts) × (ids : List DocId) × Are
 -- ---- what was inserted
 
 -- the characters that a record inserted
-abbrev pub inserted : Record → List ℕ
-inserted (Insert after text) = encode_utf8_all text
-inserted (Delete target) = []
-inserted (DeleteRun first count) = []
+abbrev pub inserted_run : Record → List ℕ
+inserted_run (Insert after text) = encode_utf8_all text
+inserted_run (Delete target) = []
+inserted_run (DeleteRun first count) = []
 
-abbrev pub inserted_by : ChangeParts → List ℕ
-inserted_by c = flat_map inserted c.records
+abbrev pub inserted_runs : ChangeParts → List ℕ
+inserted_runs c = flat_map inserted_run c.records
 
 -- What is printed is what the whole records anywhere in the bytes inserted, and then those other changes, in their order,
 -- with a newline at the end.
@@ -209,4 +209,4 @@ pub record AreTexts (bytes : List ℕ) (more : List ChangeParts) (printed : List
   pub records : List WholeRecord
   pub changes : List ChangeParts
   pub found : AreFound (length bytes) bytes records changes
-  pub spelled : printed ≡ line (flat_map inserted_by (changes ++ more))
+  pub spelled : printed ≡ line (flat_map inserted_runs (changes ++ more))

@@ -3,7 +3,7 @@
 ghost use Rattle.std.specs.Prelude.{◌≡◌, ◌++◌, length, map, IfOk, OnOk};
 ghost use Rattle.std.specs.List.{flat_map};
 ghost use Rattle.std.specs.String.{string_bytes};
-ghost use Rattle.tp_program.specs.Rescuing.{AreOthers, AreTexts, Other, WasSearched, id_in, ids_of, ids_of_other, inserted, inserted_by};
+ghost use Rattle.tp_program.specs.Rescuing.{AreOthers, AreTexts, Other, WasSearched, id_in, header_ids, ids_of_other, inserted_run, inserted_runs};
 
 use std::alloc::{AllocError, Global};
 use tp_change::{Change, Record};
@@ -51,7 +51,7 @@ fn header_id(bytes: &[u8]) -> Option<DocId>
 
 // Puts the identifier after the others, if there is one.
 fn put_id(ids: &mut Vec<DocId>, id: Option<DocId>) -> Result<(), CommandError>
-    ensures { OnOk result (ids.new.items ≡ ids.old.items ++ ids_of id) }
+    ensures { OnOk result (ids.new.items ≡ ids.old.items ++ header_ids id) }
 {
     if let Some(id) = id {
         ids.push(id)?;
@@ -97,7 +97,7 @@ pub(crate) fn read_others<D: Disk + AllocGlobal>(
 // Puts what a record inserted.
 fn put_inserted(text: &mut String, entry: &Record) -> Result<(), AllocError>
     ensures { OnOk result
-        (string_bytes text.new ≡ string_bytes text.old ++ inserted entry.now) }
+        (string_bytes text.new ≡ string_bytes text.old ++ inserted_run entry.now) }
 {
     match entry {
         Record::Insert { text: run, .. } => text.push_str(run.as_str()),
@@ -109,7 +109,7 @@ fn put_inserted(text: &mut String, entry: &Record) -> Result<(), AllocError>
 // Puts what a change inserted.
 fn put_inserted_by(text: &mut String, change: &Change) -> Result<(), AllocError>
     ensures { OnOk result
-        (string_bytes text.new ≡ string_bytes text.old ++ inserted_by change.now) }
+        (string_bytes text.new ≡ string_bytes text.old ++ inserted_runs change.now) }
 {
     for entry in change.records() {
         put_inserted(text, entry)?;
@@ -120,7 +120,7 @@ fn put_inserted_by(text: &mut String, change: &Change) -> Result<(), AllocError>
 // Puts what the changes inserted, in their order.
 fn put_texts(text: &mut String, changes: &[Change]) -> Result<(), AllocError>
     ensures { OnOk result
-        (string_bytes text.new ≡ string_bytes text.old ++ flat_map inserted_by changes.now) }
+        (string_bytes text.new ≡ string_bytes text.old ++ flat_map inserted_runs changes.now) }
 {
     for change in changes {
         put_inserted_by(text, change)?;

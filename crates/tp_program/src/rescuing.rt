@@ -1,6 +1,6 @@
 //! What is said of a journal's bytes, whatever is damaged in them, and what is had of them.
 
-ghost use Rattle.std.specs.Prelude.{◌≡◌, ◌≤◌, ◌++◌, ◌||◌, [], List, length, take, Some, false, option_map, codes, IfOk, OnOk};
+ghost use Rattle.std.specs.Prelude.{◌≡◌, ◌≤◌, ◌++◌, ◌||◌, [], List, length, take, Some, false, not, option_map, codes, IfOk, OnOk};
 ghost use Rattle.std.specs.List.{list_all, list_any};
 ghost use Rattle.std.specs.String.{string_bytes};
 ghost use Rattle.tp_opid.specs.Same.{same_doc, same_hash};
@@ -143,6 +143,18 @@ fn left_text(alloc: Global, error: GraphError, hash: &Hash) -> Result<String, Co
     Ok(format!(in alloc; "left {} {digits}", bytes_name(StoreError::Refused(error)))?)
 }
 
+// Notes a hash; whether it wasn't noted yet.
+fn note(named: &mut BTreeSet<Hash>, hash: &Hash) -> Result<bool, CommandError>
+    ensures new { IfOk result (λ new. new ≡ not (list_any (same_hash hash.now) named.old.keys)) }
+    ensures noted { OnOk result ((h : HashOf) → list_any (same_hash h) named.new.keys
+        ≡ (same_hash hash.now h || list_any (same_hash h) named.old.keys)) }
+{
+    match named.insert(*hash) {
+        Ok(new) => Ok(new),
+        Err(_) => Err(CommandError::OutOfMemory),
+    }
+}
+
 // Puts the line of a change that was left out for this cause, unless its hash was named.
 fn put_left_for(
     alloc: Global,
@@ -156,11 +168,14 @@ fn put_left_for(
     ensures named { OnOk result ((h : HashOf) → list_any (same_hash h) named.new.keys
         ≡ (same_hash hash.now h || list_any (same_hash h) named.old.keys)) }
 {
-    let mut lines = lines;
-    if named.insert(*hash)? {
-        lines.push_str(left_text(alloc, error, hash)?.as_str())?;
+    if note(named, hash)? {
+        let line = left_text(alloc, error, hash)?;
+        let mut lines = lines;
+        lines.push_str(line.as_str())?;
+        Ok(lines)
+    } else {
+        Ok(lines)
     }
-    Ok(lines)
 }
 
 // Why a change that isn't there can't enter; `None` where it is there.
@@ -391,7 +406,7 @@ fn with_more(changes: Vec<Change>, more: Vec<Change>) -> Result<Vec<Change>, Com
 }
 
 // The journal of what is in a damaged one, which has as many bytes as `to`, and in other files.
-fn rescued(
+fn rescued_journal(
     alloc: Global,
     found: Inspection<PeerSequence>,
     to: u64,
@@ -457,5 +472,5 @@ pub(crate) fn rescue_report(
         drop(found);
         return Err(CommandError::Doc(DocError::OtherDocument));
     }
-    rescued(alloc, found, bytes.len() as u64, more, ids)
+    rescued_journal(alloc, found, bytes.len() as u64, more, ids)
 }

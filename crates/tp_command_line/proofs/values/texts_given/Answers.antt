@@ -5,12 +5,12 @@ use Rattle.clap.specs.Words.{Text, found_of}
 use Rattle.clap.proofs.WalkLemmas.{raw_values-rows}
 use Rattle.tp_command_line.proofs.values.texts_given.Goals as goal
 
-pub returns-in_ok-copies_of-clause-ok : goal.returns-in_ok-copies_of-clause-ok
-returns-in_ok-copies_of-clause-ok c =
+pub returns-in_ok-copies_of-in-Some-clause-ok : goal.returns-in_ok-copies_of-in-Some-clause-ok
+returns-in_ok-copies_of-in-Some-clause-ok c =
     let all : Option (List Text) → List Text = λ o. unwrap_or o [] in
     let given : Option (Bor (List (Bor Text))) → Option (List Text) = option_map (λ s. map (λ h. h.now) s.now) in
     let is = sym (ap given c.in-Some.is) ∙ (c.get_strs.ensures ∙ raw_values-rows (found_of c.args.found.now) c.args.id.now) in
-    c.in_ok-copies_of.ensures ∙ ap all is
+    c.in_ok-copies_of-in-Some.ensures ∙ ap all is
 
 pub returns-in-None-clause-ok : goal.returns-in-None-clause-ok
 returns-in-None-clause-ok c =
