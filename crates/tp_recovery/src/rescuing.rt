@@ -209,6 +209,21 @@ fn find_whole(alloc: Global, bytes: &[u8], total: usize) -> Result<Found, StoreE
     Ok((records, changes))
 }
 
+/// The whole records anywhere in bytes, each with the digest that is right, and their changes. One is looked for at each
+/// byte, after the one before, and offsets count from the first byte. The only refusal is `OutOfMemory`.
+///
+/// The cost is that of hashing and decoding each change, and of a look at each other byte.
+pub fn whole_records(
+    alloc: Global,
+    bytes: &[u8],
+) -> Result<(Vec<WholeRecord>, Vec<Change>), StoreError>
+    ensures ok { IfOk result
+        (λ f. AreFound (length bytes.now) bytes.now f.0.items f.1.items) }
+    ensures err { IsOkUnless result OutOfMemory }
+{
+    find_whole(alloc, bytes, bytes.len())
+}
+
 // The bytes in which whole records are looked for: those after what is kept. Where no change is, a byte of the header may
 // be missing or be there twice, so that all after its first 8 bytes are looked through.
 fn to_look_through<'a, S: Sequence>(
@@ -216,7 +231,7 @@ fn to_look_through<'a, S: Sequence>(
     bytes: &'a [u8],
     rest: &'a [u8],
 ) -> &'a [u8]
-    requires { 8 ≤ length bytes.now }
+    requires header { 8 ≤ length bytes.now }
     requires rest { length rest.now ≤ length bytes.now }
     ensures looks { LooksIn bytes.now document.now.applied rest.now result.now }
     ensures few { length result.now ≤ length bytes.now }
