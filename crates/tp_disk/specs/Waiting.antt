@@ -5,7 +5,7 @@ use Rattle.tp_journal.specs.declared.opening.OpenError.TheVariants.{Busy, Io, Ou
 
 -- how many tries there are at most in that many seconds: four each second, up to 2^64 - 1, and one more
 abbrev pub tries_in : ℕ → ℕ
-tries_in seconds = min (4 * seconds) (2 ^ 64 - 1) + 1
+tries_in seconds = min (seconds * 4) (2 ^ 64 - 1) + 1
 
 -- how often the lock was another's, by what a try answered
 abbrev pub refusals_of : {T : Type 0} → Result T OpenError → ℕ
