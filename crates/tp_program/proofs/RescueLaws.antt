@@ -1,9 +1,10 @@
 -- What is said of what could be had, one change and one file after another.
-use Rattle.std.proofs.Common.{◌≡◌, ◌∙◌, ◌+◌, ◌<◌, ℕ, List, [], ◌∷◌, ◌++◌, length, map, take, drop, get_or, Option, Result, Ok, Err, inl, inr, ap, refl, sym, subst, append_assoc, append-nil}
-use Rattle.std.specs.Prelude.{IfOk, IsTrue, option_map}
+use Rattle.std.proofs.Common.{◌≡◌, ◌∙◌, ◌+◌, ◌<◌, ℕ, List, [], ◌∷◌, ◌++◌, length, map, take, drop, get_or, Bool, true, false, cond, Option, Result, Ok, Err, inl, inr, ap, refl, sym, subst, append_assoc, append-nil}
+use Rattle.std.specs.Prelude.{◌||◌, IfOk, IsTrue, OnOk, option_map}
+use Rattle.std.specs.Borrow.{Bor}
 use Rattle.std.specs.List.{flat_map, list_all}
 use Rattle.std.proofs.lemmas.Grind.{flat_map-append}
-use Rattle.std.proofs.lemmas.List.{drop_more, map_push, take_at}
+use Rattle.std.proofs.lemmas.List.{drop_more, map_push, take_at, take_more}
 use Rattle.tp_list.specs.Members.{In}
 use Rattle.tp_list.proofs.Members.{In-append}
 use Rattle.tp_opid.specs.Same.{same_doc}
@@ -21,16 +22,25 @@ use Rattle.tp_disk.specs.DiskView.{DiskView}
 use Rattle.tp_program.specs.Rescuing.{AreOthers, IsRescued, Other, WasSearched, cause_left, changes_of_other, first_left, id_chosen, ids_of_other, left_after, left_line, left_lines, path_of_other, rescue_text, tail_start}
 
 -- the lines of one change more
-pub left_more : (C before changes : List ChangeParts) (i : ℕ) (d : ChangeParts) (lines more all : List ℕ) → i < length changes
-    → lines ++ left_lines C before (drop i changes) ≡ all
-    → more ≡ lines ++ left_line (cause_left (cause C (get_or changes i d))) (has before (hash_of (get_or changes i d))) (hash_of (get_or changes i d))
-    → more ++ left_lines C (left_after (cause_left (cause C (get_or changes i d))) (get_or changes i d) before) (drop (i + 1) changes) ≡ all
-left_more C before changes i d lines more all small so_far put =
-    let c = get_or changes i d in
+pub left_more : (C before changes : List ChangeParts) (i : ℕ) (d c : ChangeParts) (lines more all : List ℕ) → i < length changes → c ≡ get_or changes i d
+    → lines ++ left_lines C before (drop i changes) ≡ all → more ≡ lines ++ left_line (cause_left (cause C c)) (has before (hash_of c)) (hash_of c)
+    → more ++ left_lines C (left_after (cause_left (cause C c)) c before) (drop (i + 1) changes) ≡ all
+left_more C before changes i d c lines more all small is so_far put =
     let rest = left_lines C (left_after (cause_left (cause C c)) c before) (drop (i + 1) changes) in
+    let next : drop i changes ≡ c ∷ drop (i + 1) changes = drop_more changes i d small ∙ ap (λ (x : ChangeParts). x ∷ drop (i + 1) changes) (sym is) in
     ap (λ (l : List ℕ). l ++ rest) put
     ∙ append_assoc lines (left_line (cause_left (cause C c)) (has before (hash_of c)) (hash_of c)) rest
-    ∙ ap (λ (l : List ChangeParts). lines ++ left_lines C before l) (sym (drop_more changes i d small)) ∙ so_far
+    ∙ ap (λ (l : List ChangeParts). lines ++ left_lines C before l) (sym next) ∙ so_far
+
+-- a test of two
+pub either : (a b : Bool) → cond a true b ≡ (a || b)
+either true b = refl
+either false b = refl
+
+-- what holds where it was done
+pub then_on : {A E P Q : Type 0} (r : Result A E) → OnOk r P → (P → Q) → OnOk r Q
+then_on (Ok x) p f = f p
+then_on (Err e) p f = tt
 
 flat_map_push : {X : Type 0} {A : Type 0} (f : X → List A) (xs : List X) (x : X) → flat_map f (xs ++ x ∷ []) ≡ flat_map f xs ++ f x
 flat_map_push f xs x = flat_map-append f xs (x ∷ []) ∙ ap (λ l. flat_map f xs ++ l) (append-nil (f x))
@@ -52,6 +62,22 @@ others_more saw paths path changes all ids named o a of_path searched all_is nam
   changes_are = all_is ∙ ap (λ (l : List ChangeParts). l ++ o.changes) a.changes_are ∙ sym (flat_map_push changes_of_other a.others o);
   ids_are = named_is ∙ ap (λ (l : List DocId). l ++ ids_of_other o) a.ids_are ∙ sym (flat_map_push ids_of_other a.others o);
 }
+
+-- no file
+pub others_none : (saw : DiskView → Type 0) (changes : List ChangeParts) (ids : List DocId) → changes ≡ [] → ids ≡ [] → AreOthers saw [] changes ids
+others_none saw changes ids no_changes no_ids = record { others = []; paths_are = refl; searched = λ o i. absurd i; changes_are = no_changes; ids_are = no_ids }
+
+-- the file at the next path
+pub others_next : (saw : DiskView → Type 0) (paths : List (Bor (List ℕ))) (i : ℕ) (d path : Bor (List ℕ)) (changes all : List ChangeParts) (ids named : List DocId) → i < length paths
+    → path ≡ get_or paths i d → AreOthers saw (map (λ p. p.now) (take i paths)) changes ids
+    → (o : Other) × (o.path ≡ path.now) × WasSearched saw o × (all ≡ changes ++ o.changes) × (named ≡ ids ++ ids_of_other o)
+    → AreOthers saw (map (λ p. p.now) (take (i + 1) paths)) all named
+others_next saw paths i d path changes all ids named small is a read =
+    let before : List (List ℕ) = map (λ p. p.now) (take i paths) in
+    let next : map (λ p. p.now) (take (i + 1) paths) ≡ before ++ path.now ∷ [] =
+    ap (map (λ (p : Bor (List ℕ)). p.now)) (take_more paths i d small) ∙ map_push (λ (p : Bor (List ℕ)). p.now) (take i paths) (get_or paths i d)
+    ∙ ap (λ (p : Bor (List ℕ)). before ++ p.now ∷ []) (sym is) in
+    subst (λ (l : List (List ℕ)). AreOthers saw l all named) (sym next) (others_more saw before path.now changes all ids named read.0 a read.1 read.2 read.3 read.4)
 
 -- what was had is of the changes, where all are those and others after them
 pub had_of_all : {A E : Type 0} (r : Result A E) (made said : A → List ℕ) (lacks : A → Option StoreError) (own id same : DocId) (kept as_kept all changes more : List ChangeParts)

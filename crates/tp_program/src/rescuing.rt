@@ -144,7 +144,7 @@ fn left_text(alloc: Global, error: GraphError, hash: &Hash) -> Result<String, Co
 }
 
 // Notes a hash; whether it wasn't noted yet.
-fn note(named: &mut BTreeSet<Hash>, hash: &Hash) -> Result<bool, CommandError>
+fn note_hash(named: &mut BTreeSet<Hash>, hash: &Hash) -> Result<bool, CommandError>
     ensures new { IfOk result (λ new. new ≡ not (list_any (same_hash hash.now) named.old.keys)) }
     ensures noted { OnOk result ((h : HashOf) → list_any (same_hash h) named.new.keys
         ≡ (same_hash hash.now h || list_any (same_hash h) named.old.keys)) }
@@ -168,7 +168,7 @@ fn put_left_for(
     ensures named { OnOk result ((h : HashOf) → list_any (same_hash h) named.new.keys
         ≡ (same_hash hash.now h || list_any (same_hash h) named.old.keys)) }
 {
-    if note(named, hash)? {
+    if note_hash(named, hash)? {
         let line = left_text(alloc, error, hash)?;
         let mut lines = lines;
         lines.push_str(line.as_str())?;
