@@ -100,13 +100,13 @@ had_of_all (Err e) made said lacks own as_own id same kept as_kept all changes m
 
 -- the journal of all that could be had, and what is printed of that
 pub rescued : {A E : Type 0} (bytes : List ℕ) (r : Result A E) (made said : A → List ℕ) (lacks : A → Option StoreError) (own : DocId) (kept changes more : List ChangeParts)
-    (ids : List DocId) (keep to : ℕ) (refused : Option StoreError) (records : List WholeRecord) → Inspects bytes own kept keep refused records changes
-    → IsTrue (list_all (same_doc (id_chosen kept own ids)) ids) → to ≡ length bytes
+    (ids : List DocId) (keep : ℕ) (refused : Option StoreError) (records : List WholeRecord) → Inspects bytes own kept keep refused records changes
+    → IsTrue (list_all (same_doc (id_chosen kept own ids)) ids)
     → IfOk r (λ x. (had : List ChangeParts) × Rescues (changes ++ more) kept had × (made x ≡ journal (id_chosen kept own ids) had)
     × (lacks x ≡ option_map Refused (first_left had changes))
-    × (said x ≡ rescue_text own (id_chosen kept own ids) had (tail_start keep) to records (changes ++ more)))
+    × (said x ≡ rescue_text own (id_chosen kept own ids) had (tail_start keep) (length bytes) records (changes ++ more)))
     → IfOk r (λ x. IsRescued bytes more ids (made x) (lacks x) (said x))
-rescued bytes (Ok x) made said lacks own kept changes more ids keep to refused records inspects agree ends h = record {
+rescued bytes (Ok x) made said lacks own kept changes more ids keep refused records inspects agree h = record {
   own = own;
   id = id_chosen kept own ids;
   kept = kept;
@@ -121,6 +121,6 @@ rescued bytes (Ok x) made said lacks own kept changes more ids keep to refused r
   rescues = h.1;
   begun = h.2;
   lacks = h.3;
-  spelled = h.4 ∙ ap (λ (n : ℕ). rescue_text own (id_chosen kept own ids) h.0 (tail_start keep) n records (changes ++ more)) ends;
+  spelled = h.4;
 }
-rescued bytes (Err e) made said lacks own kept changes more ids keep to refused records inspects agree ends h = tt
+rescued bytes (Err e) made said lacks own kept changes more ids keep refused records inspects agree h = tt

@@ -14,4 +14,4 @@ returns c =
     let agree : IsTrue (list_all (same_doc (id_chosen found.document.applied found.document.id c.args.ids.now)) c.args.ids.now) =
     subst (λ (i : DocId). IsTrue (list_all (same_doc i) c.args.ids.now)) c.chosen_id.ensures (sym c.are_all.ensures ∙ c.if-not-are_all.false) in
     rescued c.args.bytes.now c.rescued_journal.result (λ r. r.journal.items) (λ r. string_bytes r.text) (λ r. r.lacking) found.document.id found.document.applied found.changes.items
-    c.args.more.items c.args.ids.now found.keep c.len.result found.fault found.records.items c.in_ok-found.ensures.ok.0 agree c.len.ensures c.rescued_journal.ensures
+    c.args.more.items c.args.ids.now found.keep found.fault found.records.items c.in_ok-found.ensures.ok.0 agree c.rescued_journal.ensures
