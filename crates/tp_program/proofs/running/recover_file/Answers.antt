@@ -11,8 +11,8 @@ returns-in-Some-clause-err g c =
     λ lacking. IsRecoveryOutput (g.D.Folders.saw c.args.rt.now) c.args.file.now (Some c.args.made) (map (λ p. p.now) c.args.paths.now) lacking (string_bytes c.in_ok-text.text) in
     inr (inr (c.in-Some.error, ap Command c.from.ensures, (string_bytes c.in_ok-text.text, subst P c.in-Some.is c.in_ok-text.ensures, c.in-Ok.ensures.ok)))
 
-pub returns-clause-err : goal.returns-clause-err
-returns-clause-err g c =
+pub returns-in-Err-clause-err : goal.returns-in-Err-clause-err
+returns-in-Err-clause-err g c =
     ⊎_elim
     (λ kept. inl kept)
     (λ part. inr (inl (part.0, (string_bytes c.in_ok-text.text, (c.in_ok-text.lacking, c.in_ok-text.ensures), part.1))))
