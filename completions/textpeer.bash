@@ -38,7 +38,7 @@ _textpeer() {
     merge) values=(file file) options='--wait --key --explain -h --help' takes='--wait --key' ;;
     save) values=(file file) options='--explain -h --help' ;;
     load) values=(file file) options='--wait --explain -h --help' takes='--wait' ;;
-    recover) values=(file file) options='--explain -h --help' ;;
+    recover) values=(file file) options='--with --texts --explain -h --help' takes='--with' ;;
     show) values=(file) options='--explain -h --help' ;;
     simulate) values=(file) options='--explain -h --help' ;;
     serve) values=(file other) options='--sessions --workers --patience --verbose --wait --key --explain -h --help' takes='--sessions --workers --patience --wait --key' ;;

@@ -11,7 +11,7 @@ function __textpeer_place
     set -l words (commandline -opc)[3..]
     set -l place 1
     while set -q words[1]
-        if contains -- $words[1] --at --del --follow --key --message --most --patience --serve --sessions --since --text --text-file --time --to --wait --workers
+        if contains -- $words[1] --at --del --follow --key --message --most --patience --serve --sessions --since --text --text-file --time --to --wait --with --workers
             set -e words[1]
             set -q words[1]; or set place 0
         else if not string match -q -- '-*' $words[1]
@@ -128,6 +128,8 @@ complete -c textpeer -n '__textpeer_does load; and not __fish_contains_opt -s h 
 complete -c textpeer -n __fish_use_subcommand -a recover -d 'Makes a journal of all that can be had of a damaged one, and says how many changes came and from which bytes none did'
 complete -c textpeer -n '__textpeer_does recover; and test (__textpeer_place) -eq 1' -F
 complete -c textpeer -n '__textpeer_does recover; and test (__textpeer_place) -eq 2' -F
+complete -c textpeer -n '__textpeer_does recover; and not __fish_contains_opt with' -l with -x -d 'another file whose whole changes enter too, once for each: what was cut off, or a copy of the journal'
+complete -c textpeer -n '__textpeer_does recover; and not __fish_contains_opt texts' -l texts -d 'makes no journal, and prints what the whole changes inserted, in their order: a last resort'
 complete -c textpeer -n '__textpeer_does recover; and not __fish_contains_opt explain' -l explain -d 'says below a refusal which file it is about and what to do, as always on a terminal'
 complete -c textpeer -n '__textpeer_does recover; and not __fish_contains_opt -s h help' -s h -l help -d 'Print help'
 complete -c textpeer -n __fish_use_subcommand -a show -d 'Prints the text that a log of changes makes'

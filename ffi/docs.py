@@ -1,4 +1,4 @@
-"""What docs/C.md says, done: its example is ffi/example.c, its lines compile it, its session prints what it says, and
+"""What docs/C.md says, done: its lines compile its example, its session prints what it says, and
 its function that shows what came does that.
 Run by ffi/test; $TEXTPEER_FOLDER is the folder with the libraries, as `ffi/build` makes it or the release has it."""
 import os
@@ -120,9 +120,8 @@ class Docs(unittest.TestCase):
         self.assertEqual(ran.returncode, 0, ran.stdout)
         return ran.stdout.splitlines()
 
-    def test_the_example_is_the_file(self):
-        shown = re.search(r"<!-- example: ffi/example\.c, .*-->\n```c\n(.*?)```\n<!-- end of example -->", PAGE, re.S)[1]
-        self.assertEqual(shown, (TOP / "ffi/example.c").read_text(encoding="utf-8"))
+    def test_the_example_is_there(self):
+        self.assertTrue((TOP / "docs" / re.search(r"\]\((\S+/example\.c)\)", PAGE)[1]).is_file())
 
     def test_each_line_compiles(self):
         commands, compiled = [], 0

@@ -28,7 +28,7 @@ use Rattle.tp_command_line.specs.LineError.{FailsAs, RefusesLine, IsPassedAs, Re
 use Rattle.tp_command_line.specs.declared.error.LineError.{LineError}
 use Rattle.tp_command_line.specs.declared.error.LineError.TheVariants.{Request, Fault, Value}
 use Rattle.tp_command_line.specs.declared.error.ValueError.{ValueError}
-use Rattle.tp_command_line.specs.declared.error.ValueError.TheVariants.{BadHex, BadAddress, BadPage, OutOfMemory, NotOneText}
+use Rattle.tp_command_line.specs.declared.error.ValueError.TheVariants.{BadHex, BadAddress, BadPage, OutOfMemory, NotOneText, NotOneOutput}
 use Rattle.tp_command_line.proofs.Rows.{HasFirst, one_taken}
 use Rattle.tp_command_line.proofs.Uses.{IsUseOf, all_filled, always_given, use_of}
 
@@ -217,6 +217,7 @@ not_read kinds found name rows BadAddress none is bad = (name, rows, none, is, b
 not_read kinds found name rows BadPage none is bad = (name, rows, none, is, bad)
 not_read kinds found name rows OutOfMemory none is bad = tt
 not_read kinds found name rows NotOneText none is bad = (name, rows, none, is, bad)
+not_read kinds found name rows NotOneOutput none is bad = (name, rows, none, is, bad)
 
 pub value_fails : {T : Type 0} (kinds : Kinds) (found : Option (Text × List Row)) (name : Text) (rows : List Row) (e : ValueError) (r : Result T LineError) → kinds ≡ []
     → found ≡ Some (name, rows) → IsErrAnd r (λ y. y ≡ Value e) → RefusesValue rows e → FailsAs kinds found r

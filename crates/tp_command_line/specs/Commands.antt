@@ -6,14 +6,14 @@ use Rattle.clap.specs.Words.{App, Row, Rule, Shape, Text, app_of, first_of}
 use Rattle.clap.specs.declared.builder.command.Command.{Command}
 use Rattle.clap.specs.declared.builder.command.Command.TheViews.{out-Command}
 use Rattle.tp_command_line.specs.declared.job.FileJob.TheVariants.{New, Edit, Update, Import, Text as ReadText, Heads, Log, Graph, Diff, Status, Cursor, Check, Merge, Save, Load, Recover, Show, Simulate}
-use Rattle.tp_command_line.specs.declared.job.Beside.TheVariants.{Here, Loaded, Made, NoJournal, Nothing, Page, Read, Streams, Text as ReadBeside, There}
+use Rattle.tp_command_line.specs.declared.job.Beside.TheVariants.{Here, Loaded, Made, NoJournal, Nothing, Page, Read, Rescued, Streams, Text as ReadBeside, There}
 use Rattle.tp_command_line.specs.declared.job.Inserted.{Inserted}
 use Rattle.tp_command_line.specs.declared.job.Inserted.TheVariants.{Given, InFile}
 use Rattle.tp_command_line.specs.declared.job.Job.{Job}
 use Rattle.tp_command_line.specs.declared.job.Subject.{Subject}
 use Rattle.tp_command_line.specs.declared.job.Job.TheVariants.{Files, Follow, Serve, Session, Sync, Web}
-use Rattle.tp_command_line.specs.Rules.{file_rule, flag_rule, follow_rule, key_rule, list_rule, mandatory, message_rule, most_rule, numeric, option_rule, options_rule, page_rule, patience_rule, required_rule, server_rule, sessions_rule, several, time_rule, wait_rule, workers_rule}
-use Rattle.tp_command_line.specs.Values.{HasAddress, HasFlag, HasHashes, HasHeads, HasHosting, HasKey, HasNumber, MayHaveNumber}
+use Rattle.tp_command_line.specs.Rules.{file_rule, flag_rule, follow_rule, key_rule, list_rule, mandatory, message_rule, most_rule, numeric, option_rule, optional_rule, options_rule, page_rule, patience_rule, required_rule, server_rule, sessions_rule, several, time_rule, workers_rule, wait_rule}
+use Rattle.tp_command_line.specs.Values.{HasAddress, HasFlag, HasHashes, HasHeads, HasHosting, HasKey, HasNumber, HasTexts, MayHaveNumber}
 
 -- ---- shapes
 
@@ -95,9 +95,10 @@ save_shape = with_rules (codes "save") (file_rule ∷ required_rule (codes "OUT"
 abbrev pub load_shape : Shape
 load_shape = with_rules (codes "load") (required_rule (codes "SAVED") ∷ file_rule ∷ wait_rule ∷ [])
 
--- `recover FILE OUT`
+-- `recover FILE`, and `OUT` or `--texts`, `[--with OTHER]`, also several times; of the two the rules ask for none
 abbrev pub recover_shape : Shape
-recover_shape = with_rules (codes "recover") (file_rule ∷ required_rule (codes "OUT") ∷ [])
+recover_shape = with_rules (codes "recover")
+    (file_rule ∷ optional_rule (codes "OUT") ∷ options_rule (codes "with") ∷ flag_rule (codes "texts") ∷ [])
 
 -- `show LOG`
 abbrev pub show_shape : Shape
@@ -169,6 +170,11 @@ abbrev pub HasInserted : List Row → Inserted → Type 0
 HasInserted rows (Given text) = HasText (codes "text") rows text × (first_of (codes "text-file") rows ≡ None)
 HasInserted rows (InFile path) = HasText (codes "text-file") rows path × (first_of (codes "text") rows ≡ None)
 
+-- a journal is to be made at the path, or none, and the texts of the records are to be printed
+abbrev pub HasOutput : List Row → Option (Bor Text) → Type 0
+HasOutput rows (Some out) = HasText (codes "OUT") rows out × HasFlag (codes "texts") rows false
+HasOutput rows None = (first_of (codes "OUT") rows ≡ None) × HasFlag (codes "texts") rows true
+
 -- the job is that of the subcommand with this name, and its values are those of the arguments
 abbrev pub IsJobOf : Text → List Row → Job → Type 0
 IsJobOf name rows (Files (New file key)) = (name ≡ codes "new") × HasText (codes "FILE") rows file × HasKey rows key
@@ -198,7 +204,8 @@ IsJobOf name rows (Files (Merge file other key)) = (name ≡ codes "merge")
     × HasText (codes "FILE") rows file × HasText (codes "OTHER") rows other × HasKey rows key
 IsJobOf name rows (Files (Save file out)) = (name ≡ codes "save") × HasText (codes "FILE") rows file × HasText (codes "OUT") rows out
 IsJobOf name rows (Files (Load saved file)) = (name ≡ codes "load") × HasText (codes "SAVED") rows saved × HasText (codes "FILE") rows file
-IsJobOf name rows (Files (Recover file out)) = (name ≡ codes "recover") × HasText (codes "FILE") rows file × HasText (codes "OUT") rows out
+IsJobOf name rows (Files (Recover file out others)) = (name ≡ codes "recover") × HasText (codes "FILE") rows file × HasOutput rows out
+    × HasTexts (codes "with") rows others.items
 IsJobOf name rows (Files (Show log)) = (name ≡ codes "show") × HasText (codes "LOG") rows log
 IsJobOf name rows (Files (Simulate script)) = (name ≡ codes "simulate") × HasText (codes "SCRIPT") rows script
 IsJobOf name rows (Serve file addr sessions workers patience is_verbose key) = (name ≡ codes "serve") × HasText (codes "FILE") rows file
@@ -239,7 +246,7 @@ abbrev pub subject_of : Job → Subject
 subject_of (Files (Merge file other key)) = record { file = file; beside = Read other }
 subject_of (Files (Save file out)) = record { file = file; beside = Made out }
 subject_of (Files (Load saved file)) = record { file = saved; beside = Loaded file }
-subject_of (Files (Recover file out)) = record { file = file; beside = Made out }
+subject_of (Files (Recover file out others)) = record { file = file; beside = Rescued out (slice_get others.items 0) }
 subject_of (Files (New file key)) = record { file = file; beside = Made file }
 subject_of (Files (Edit file at del (Given text) time message key)) = record { file = file; beside = Nothing }
 subject_of (Files (Edit file at del (InFile source) time message key)) = record { file = file; beside = ReadBeside source }

@@ -2,8 +2,8 @@
 
 ghost use Rattle.std.specs.Prelude.{◌≡◌, ◌∷◌, IfOk, [], false, codes};
 ghost use Rattle.clap.specs.Words.{App, Shape, app_of, rule_of, with_subcommand};
-ghost use Rattle.tp_command_line.specs.Commands.{IsLeaf, bare_app, cursor_shape, diff_shape, edit_at_shape, edit_shape, files_app, journals_app, load_shape, log_shape, merge_shape, new_shape, serve_shape, session_shape, sync_shape, text_shape, textpeer_app, update_shape, web_shape, whole_text_shape, with_rules};
-ghost use Rattle.tp_command_line.specs.Rules.{file_rule, flag_rule, follow_rule, list_rule, mandatory, message_rule, most_rule, numeric, option_rule, options_rule, page_rule, patience_rule, required_rule, server_rule, sessions_rule, several, time_rule, wait_rule, workers_rule};
+ghost use Rattle.tp_command_line.specs.Commands.{IsLeaf, bare_app, cursor_shape, diff_shape, edit_at_shape, edit_shape, files_app, journals_app, load_shape, log_shape, merge_shape, new_shape, recover_shape, serve_shape, session_shape, sync_shape, text_shape, textpeer_app, update_shape, web_shape, whole_text_shape, with_rules};
+ghost use Rattle.tp_command_line.specs.Rules.{file_rule, flag_rule, follow_rule, list_rule, mandatory, message_rule, most_rule, numeric, option_rule, optional_rule, options_rule, page_rule, patience_rule, required_rule, server_rule, sessions_rule, several, time_rule, workers_rule, wait_rule};
 
 use clap::builder::ValueParser;
 use clap::{Arg, ArgAction, Command, value_parser};
@@ -45,14 +45,7 @@ fn file_commands<'a>(alloc: Global) -> Result<Command<'a>, AllocError>
     let loaded = with(saved, load_command(alloc));
     let recovered = with(
         loaded,
-        pair_command(
-            alloc,
-            "recover",
-            "Makes a journal of all that can be had of a damaged one, and says how many changes came and from which bytes none did",
-            "Example:\n  textpeer recover notes.journal whole.journal",
-            "OUT",
-            "the journal that is made; where anything is there it stays",
-        ),
+        recover_command(alloc),
     );
     let shown = with(
         recovered,
@@ -621,6 +614,48 @@ fn merge_command<'a>(alloc: Global) -> Result<Command<'a>, AllocError>
     )?
     .arg(wait(alloc))?
     .arg(key(alloc))
+}
+
+// The journal that `recover` makes.
+fn made_journal<'a>(alloc: Global) -> Arg<'a>
+    ensures rule { rule_of result ≡ optional_rule (codes "OUT") }
+    ensures local { result.global ≡ false }
+{
+    Arg::new(alloc, "OUT")
+        .help("the journal that is made; where anything is there it stays")
+        .action(ArgAction::Set)
+}
+
+// Other files that `recover` looks through, each after the option's name.
+fn other_file<'a>(alloc: Global) -> Arg<'a>
+    ensures rule { rule_of result ≡ options_rule (codes "with") }
+    ensures local { result.global ≡ false }
+{
+    option(
+        alloc,
+        "with",
+        "OTHER",
+        "another file whose whole changes enter too, once for each: what was cut off, or a copy of the journal",
+    )
+    .action(ArgAction::Append)
+}
+
+fn recover_command<'a>(alloc: Global) -> Result<Command<'a>, AllocError>
+    ensures { IfOk result (IsLeaf recover_shape) }
+{
+    file_command(
+        alloc,
+        "recover",
+        "Makes a journal of all that can be had of a damaged one, and says how many changes came and from which bytes none did",
+        "Example:\n  textpeer recover notes.journal whole.journal\n  textpeer recover notes.journal whole.journal --with copy.journal",
+    )?
+    .arg(made_journal(alloc))?
+    .arg(other_file(alloc))?
+    .arg(flag(
+        alloc,
+        "texts",
+        "makes no journal, and prints what the whole changes inserted, in their order: a last resort",
+    ))
 }
 
 fn load_command<'a>(alloc: Global) -> Result<Command<'a>, AllocError>

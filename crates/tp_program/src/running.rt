@@ -1,6 +1,6 @@
 //! Doing a job, and what is printed of it.
 
-ghost use Rattle.std.specs.Prelude.{◌≡◌, [], IfOk, IfErr, IfSome, None, OnErr, OnOk};
+ghost use Rattle.std.specs.Prelude.{◌≡◌, [], map, IfOk, IfErr, IfSome, Some, None, OnErr, OnOk};
 ghost use Rattle.std.specs.Str.{chars};
 ghost use Rattle.std.specs.String.{string_bytes};
 ghost use Rattle.tp_simulate.specs.Script.{Prints};
@@ -9,17 +9,18 @@ ghost use Rattle.tp_commands.specs.Diff.{IsDiff};
 ghost use Rattle.tp_commands.specs.Reading.{AreHeadLines, IsCursorLine, IsTextPrinted};
 ghost use Rattle.tp_commands.specs.Status.{IsStatus};
 ghost use Rattle.tp_commands.specs.declared.status.Lock.{Lock};
-ghost use Rattle.tp_program.specs.Files.{BeginsJournal, IsLoaded, OfInserted, RescuesTo, SavesTo};
+ghost use Rattle.tp_program.specs.Files.{BeginsJournal, IsLoaded, IsRecoveryOutput, OfInserted, RescuesTo, SavesTo};
 ghost use Rattle.tp_disk.specs.DiskView.{ChangesFile, OfFile};
 ghost use Rattle.tp_disk.specs.Opening.{CutsFile, MayCutFile};
 ghost use Rattle.tp_program.specs.Lines.{IsEditLine, IsMergeLine, IsNewLine, made_line as line_of_made};
 ghost use Rattle.tp_report.specs.Names.{WasMade, output_of_made};
-ghost use Rattle.tp_program.specs.Output.{CutsFor, IsFilesPrinted, IsLogPrinted, IsShown, RefusesCheckOutput, RefusesFilesOutput, RefusesScriptOutput, MayCutFor};
+ghost use Rattle.tp_program.specs.Output.{CutsFor, IsFilesPrinted, IsLogPrinted, IsShown, RefusesCheckOutput, RefusesFilesOutput, RefusesRecoveryOutput, RefusesScriptOutput, MayCutFor};
 ghost use Rattle.tp_report.specs.Telling.{GrowsBy, RefusesPrinting};
-ghost use Rattle.tp_program.specs.Rescuing.{IsChecked};
+ghost use Rattle.tp_program.specs.Rescuing.{IsChecked, OfOthers};
 ghost use Rattle.tp_report.specs.JobError.{IsAllSaid};
 
-use crate::rescuing::{check_report, rescue_report};
+use crate::others::{Others, inserted_texts, read_others};
+use crate::rescuing::{Rescued, check_report, rescue_report};
 use crate::texts::{import_text, read_input, update_text};
 use std::alloc::Global;
 use std::io::{BufReader, Read, Write};
@@ -36,7 +37,7 @@ use tp_opid::{Actor, DocId, Hash};
 use tp_peer::{PeerSequence, create_journal};
 use tp_report::{JobError, Made, put, put_made};
 use tp_simulate::simulate;
-use tp_store::load;
+use tp_store::{StoreError, load};
 use tp_textpeer::show;
 
 /// Does what is to be done to files, where the path `-` of a text names `input`, and writes what is printed of it to
@@ -125,7 +126,16 @@ pub fn carry_out<D: Disk + AllocGlobal, I: Read, W: Write>(
         }
         FileJob::Save { file, out: path } => put(out, save_to(rt, file, path)),
         FileJob::Load { saved, file } => put(out, load_from(rt, saved, file, wait)),
-        FileJob::Recover { file, out: path } => put(out, recover_to(rt, file, path)),
+        FileJob::Recover {
+            file,
+            out: Some(made),
+            others,
+        } => recover_file(rt, file, made, &others, out),
+        FileJob::Recover {
+            file,
+            out: None,
+            others,
+        } => put(out, texts_of_records(rt, file, &others)),
         FileJob::Show { log } => show_file(rt, log, out),
         FileJob::Simulate { script } => simulate_file(rt, script, out),
     }
@@ -432,15 +442,70 @@ fn check_file<D: Disk + AllocGlobal, W: Write>(
     }
 }
 
-// Makes the journal of all that can be had of the one at a path.
-fn recover_to<D: Disk + AllocGlobal>(rt: &D, file: &str, out: &str) -> Result<String, CommandError>
-    ensures { IfOk result (λ l. OfFile (D.saw rt.now) file.now
-        (λ bytes. RescuesTo (D.saw rt.now) out.now bytes (string_bytes l))) }
+// Makes the journal of all that can be had of the one at a path and of other files; what is printed of that, and why it lacks
+// one of the first one's whole changes, if it does.
+fn recover_to<D: Disk + AllocGlobal>(
+    rt: &D,
+    file: &str,
+    made: &str,
+    paths: &[&str],
+) -> Result<(String, Option<StoreError>), CommandError>
+    ensures { IfOk result (λ r. OfFile (D.saw rt.now) file.now
+        (λ bytes. OfOthers (D.saw rt.now) (map (λ p. p.now) paths.now) (λ more ids.
+        RescuesTo (D.saw rt.now) made.now bytes more ids r.1 (string_bytes r.0)))) }
 {
     rt.check_journal(file)?;
-    let (journal, text) = rescue_report(rt.alloc(), &rt.read(file)?)?;
-    put_new(rt, out, file, &journal)?;
-    Ok(text)
+    let bytes = rt.read(file)?;
+    let Others { changes, ids } = read_others(rt, paths)?;
+    let Rescued {
+        journal,
+        text,
+        lacking,
+    } = rescue_report(rt.alloc(), &bytes, changes, &ids)?;
+    put_new(rt, made, file, &journal)?;
+    Ok((text, lacking))
+}
+
+// Makes the journal of all that can be had, and writes what is printed of that. It is refused for the first whole change that
+// is lacking, once that is written.
+fn recover_file<D: Disk + AllocGlobal, W: Write>(
+    rt: &D,
+    file: &str,
+    made: &str,
+    paths: &[&str],
+    out: &mut W,
+) -> Result<(), JobError>
+    ensures ok { OnOk result
+        (GrowsBy (IsRecoveryOutput (D.saw rt.now) file.now (Some made.entry)
+        (map (λ p. p.now) paths.now) None) (W.contents out.old) (W.contents out.new)) }
+    ensures err { IfErr result (λ e. RefusesRecoveryOutput (D.saw rt.now) file.now
+        (Some made.entry) (map (λ p. p.now) paths.now) (W.contents out.old)
+        e (W.contents out.new)) }
+    ensures said { IfErr result IsAllSaid }
+{
+    let (text, lacking) = recover_to(rt, file, made, paths)?;
+    match put(out, Ok(text)) {
+        Ok(()) => match lacking {
+            Some(error) => Err(JobError::Command(CommandError::from(error))),
+            None => Ok(()),
+        },
+        Err(error) => Err(error),
+    }
+}
+
+// What the whole records in the journal at a path, and in other files, inserted.
+fn texts_of_records<D: Disk + AllocGlobal>(
+    rt: &D,
+    file: &str,
+    paths: &[&str],
+) -> Result<String, CommandError>
+    ensures { IfOk result (λ l. IsRecoveryOutput (D.saw rt.now) file.now None
+        (map (λ p. p.now) paths.now) None (string_bytes l)) }
+{
+    rt.check_journal(file)?;
+    let bytes = rt.read(file)?;
+    let others = read_others(rt, paths)?;
+    inserted_texts(rt.alloc(), &bytes, &others.changes)
 }
 
 // Begins the journal at a path with the document.
