@@ -37,11 +37,7 @@ pub struct IdleJournal<'a, D: Disk> {
 
 /// The journal was left with all that is in it on the disk: its file's stamp, which was taken before another can have the
 /// lock. `None` where that can't be said; it ends in any case.
-pub fn left_stamp<D: Disk>(
-    rt: &D,
-    path: &str,
-    journal: DurableJournal<D::File>,
-) -> Option<Stamp> {
+pub fn left_stamp<D: Disk>(rt: &D, path: &str, journal: DurableJournal<D::File>) -> Option<Stamp> {
     let mut journal = journal;
     match rt.leave(path, &mut journal) {
         Ok(()) => rt.stamp(path),

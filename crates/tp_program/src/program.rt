@@ -156,15 +156,7 @@ pub fn run_job<
     I: Read,
     W: Write,
     E: Write,
->(
-    rt: &R,
-    job: Job,
-    wait: u64,
-    explains: bool,
-    input: &mut I,
-    out: &mut W,
-    err: &mut E,
-) -> u8
+>(rt: &R, job: Job, wait: u64, explains: bool, input: &mut I, out: &mut W, err: &mut E) -> u8
 where
     R::File: Send,
     R::Listener: Sync,

@@ -81,9 +81,7 @@ pub fn carry_out<D: Disk + AllocGlobal, I: Read, W: Write>(
             let place = (at as usize, del as usize);
             put_made(
                 out,
-                edited_by(
-                    rt, file, place, text, input, time, message, key, wait, cut,
-                ),
+                edited_by(rt, file, place, text, input, time, message, key, wait, cut),
             )
         }
         FileJob::Update {
@@ -313,12 +311,30 @@ fn edited_by<D: Disk + AllocGlobal, I: Read>(
     let (at, del) = place;
     match text {
         Inserted::Given(text) => {
-            edit_file(rt, file, Splice { at, del, text }, time, message, key, wait, cut)
+            edit_file(
+                rt,
+                file,
+                Splice { at, del, text },
+                time,
+                message,
+                key,
+                wait,
+                cut,
+            )
         }
         Inserted::InFile(path) => {
             let bytes = read_input(rt, path, input)?;
             let text = text_in_file(&bytes)?;
-            edit_file(rt, file, Splice { at, del, text }, time, message, key, wait, cut)
+            edit_file(
+                rt,
+                file,
+                Splice { at, del, text },
+                time,
+                message,
+                key,
+                wait,
+                cut,
+            )
         }
     }
 }
