@@ -43,10 +43,7 @@ fn file_commands<'a>(alloc: Global) -> Result<Command<'a>, AllocError>
         ),
     );
     let loaded = with(saved, load_command(alloc));
-    let recovered = with(
-        loaded,
-        recover_command(alloc),
-    );
+    let recovered = with(loaded, recover_command(alloc));
     let shown = with(
         recovered,
         value_command(

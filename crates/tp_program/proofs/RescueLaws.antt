@@ -87,8 +87,7 @@ pub had_of_all : {A E : Type 0} (r : Result A E) (made said : A → List ℕ) (l
     → IfOk r (λ x. (had : List ChangeParts) × Rescues (changes ++ more) kept had × (made x ≡ journal id had) × (lacks x ≡ option_map Refused (first_left had changes))
     × (said x ≡ rescue_text own id had from to records (changes ++ more)))
 had_of_all (Ok x) made said lacks own id same kept as_kept all changes more from to count records is_id is_kept is_all is_count h =
-    let own_changes : take count all ≡ changes = ap (λ (l : List ChangeParts). take count l) is_all ∙ take_at changes more count (sym is_count) in
-    (
+    let own_changes : take count all ≡ changes = ap (λ (l : List ChangeParts). take count l) is_all ∙ take_at changes more count (sym is_count) in (
       h.0,
       subst (λ (K : List ChangeParts). Rescues (changes ++ more) K h.0) is_kept (subst (λ (l : List ChangeParts). Rescues l as_kept h.0) is_all h.1),
       h.2 ∙ ap (λ (i : DocId). journal i h.0) is_id,

@@ -437,13 +437,7 @@ fn rescued_journal(
     };
     let document = document_under(alloc, document, ids);
     match with_more(changes, more) {
-        Ok(all) => journal_and_report(
-            alloc,
-            document,
-            damaged,
-            records.as_slice(),
-            all.as_slice(),
-        ),
+        Ok(all) => journal_and_report(alloc, document, damaged, records.as_slice(), all.as_slice()),
         Err(error) => {
             drop(document);
             Err(error)

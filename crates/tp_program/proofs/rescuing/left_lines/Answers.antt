@@ -10,10 +10,9 @@ loop-change-preserved c =
     let C = c.args.graph.now.applied in
     let change : ChangeParts = c.change-item.result in
     let before = c.loop-change.invariant.0 in
-    let put = c.in_ok-lines.ensures before c.loop-change.invariant.1 in
-    (
+    let put = c.in_ok-lines.ensures before c.loop-change.invariant.1 in (
       left_after (cause_left (cause C change)) change before,
       put.1,
       left_more C before c.args.changes.now c.loop-change.change-index change change (string_bytes c.loop-change.lines) (string_bytes c.in_ok-lines.lines) _ c.loop-change-test.true c.change-item.is
-      c.loop-change.invariant.2 put.0,
+          c.loop-change.invariant.2 put.0,
     )
