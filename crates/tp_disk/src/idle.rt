@@ -50,7 +50,6 @@ impl<'a, D: Disk> IdleJournal<'a, D> {
     /// are on the disk: who left the file with that stamp brought them there. Its lock is waited for `wait` seconds.
     ///
     /// `None` where they don't recover, and where more is in them than what is kept: another writes them, or they are damaged.
-    #[tactic(auto, using(crate::proofs::IdleLaws::whole_len))]
     pub fn finish(
         rt: &'a D,
         path: &'a str,
