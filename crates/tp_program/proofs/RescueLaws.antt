@@ -79,22 +79,24 @@ others_next saw paths i d path changes all ids named small is a read =
     ∙ ap (λ (p : Bor (List ℕ)). before ++ p.now ∷ []) (sym is) in
     subst (λ (l : List (List ℕ)). AreOthers saw l all named) (sym next) (others_more saw before path.now changes all ids named read.0 a read.1 read.2 read.3 read.4)
 
--- what was had is of the changes, where all are those and others after them
-pub had_of_all : {A E : Type 0} (r : Result A E) (made said : A → List ℕ) (lacks : A → Option StoreError) (own id same : DocId) (kept as_kept all changes more : List ChangeParts)
-    (from to count : ℕ) (records : List WholeRecord) → same ≡ id → as_kept ≡ kept → all ≡ changes ++ more → count ≡ length changes
+-- what was had is of the changes, where all are those and others after them, and what else is said of it in other words
+pub had_of_all : {A E : Type 0} (r : Result A E) (made said : A → List ℕ) (lacks : A → Option StoreError) (own as_own id same : DocId) (kept as_kept all changes more : List ChangeParts)
+    (from as_from to count : ℕ) (records as_records : List WholeRecord) → as_own ≡ own → same ≡ id → as_kept ≡ kept → all ≡ changes ++ more → as_from ≡ from → count ≡ length changes → as_records ≡ records
     → IfOk r (λ x. (had : List ChangeParts) × Rescues all as_kept had × (made x ≡ journal same had) × (lacks x ≡ option_map Refused (first_left had (take count all)))
-    × (said x ≡ rescue_text own same had from to records all))
+    × (said x ≡ rescue_text as_own same had as_from to as_records all))
     → IfOk r (λ x. (had : List ChangeParts) × Rescues (changes ++ more) kept had × (made x ≡ journal id had) × (lacks x ≡ option_map Refused (first_left had changes))
     × (said x ≡ rescue_text own id had from to records (changes ++ more)))
-had_of_all (Ok x) made said lacks own id same kept as_kept all changes more from to count records is_id is_kept is_all is_count h =
+had_of_all (Ok x) made said lacks own as_own id same kept as_kept all changes more from as_from to count records as_records is_own is_id is_kept is_all is_from is_count is_records h =
     let own_changes : take count all ≡ changes = ap (λ (l : List ChangeParts). take count l) is_all ∙ take_at changes more count (sym is_count) in (
       h.0,
       subst (λ (K : List ChangeParts). Rescues (changes ++ more) K h.0) is_kept (subst (λ (l : List ChangeParts). Rescues l as_kept h.0) is_all h.1),
       h.2 ∙ ap (λ (i : DocId). journal i h.0) is_id,
       h.3 ∙ ap (λ (l : List ChangeParts). option_map Refused (first_left h.0 l)) own_changes,
-      h.4 ∙ ap (λ (i : DocId). rescue_text own i h.0 from to records all) is_id ∙ ap (λ (l : List ChangeParts). rescue_text own id h.0 from to records l) is_all,
+      h.4 ∙ ap (λ (o : DocId). rescue_text o same h.0 as_from to as_records all) is_own ∙ ap (λ (i : DocId). rescue_text own i h.0 as_from to as_records all) is_id
+      ∙ ap (λ (at : ℕ). rescue_text own id h.0 at to as_records all) is_from ∙ ap (λ (rs : List WholeRecord). rescue_text own id h.0 from to rs all) is_records
+      ∙ ap (λ (l : List ChangeParts). rescue_text own id h.0 from to records l) is_all,
     )
-had_of_all (Err e) made said lacks own id same kept as_kept all changes more from to count records is_id is_kept is_all is_count h = tt
+had_of_all (Err e) made said lacks own as_own id same kept as_kept all changes more from as_from to count records as_records is_own is_id is_kept is_all is_from is_count is_records h = tt
 
 -- the journal of all that could be had, and what is printed of that
 pub rescued : {A E : Type 0} (bytes : List ℕ) (r : Result A E) (made said : A → List ℕ) (lacks : A → Option StoreError) (own : DocId) (kept changes more : List ChangeParts)

@@ -5,5 +5,6 @@ use Rattle.tp_program.proofs.rescuing.rescued_journal.Goals as goal
 
 pub returns-in-Ok : goal.returns-in-Ok
 returns-in-Ok c =
-    had_of_all c.journal_and_report.result (λ r. r.journal.items) (λ r. string_bytes r.text) (λ r. r.lacking) _ _ _ _ _ _ _ _ _ _ _ _
-    c.document_under.ensures.id c.document_under.ensures.applied c.in-Ok.ensures _ c.journal_and_report.ensures
+    had_of_all c.journal_and_report.result (λ r. r.journal.items) (λ r. string_bytes r.text) (λ r. r.lacking) _ _ _ _ _ _ _ _ _ _ _ _ _ _ _
+    c.id.ensures c.document_under-document.ensures.id c.document_under-document.ensures.applied (c.as_slice-in-Ok.ensures.value ∙ c.in-Ok.ensures) c.tail_start.ensures (c.len.ensures ∙ c.args.found.changes.ok.0) c.as_slice.ensures.value
+    c.journal_and_report.ensures
