@@ -1,5 +1,5 @@
 -- The content of a journal that has no file.
-use Rattle.std.proofs.Common.{◌≡◌, ◌+◌, ap, arith, sym, ℕ, zero, List, [], ◌++◌, length, append-nil, length-append}
+use Rattle.std.proofs.Common.{◌≡◌, ap, arith, sym, ℕ, List, length, append-nil, length-append}
 use Rattle.tp_journal.specs.Journal.{GrowsInPart}
 use Rattle.tp_recovery.specs.Recovery.{HasTail}
 

@@ -268,11 +268,7 @@ where
         }
     }
 
-    fn make_journal(
-        &self,
-        path: &str,
-        wait: u64,
-    ) -> Result<DurableJournal<R::File>, CommandError> {
+    fn make_journal(&self, path: &str, wait: u64) -> Result<DurableJournal<R::File>, CommandError> {
         self.check_journal(path)?;
         Ok(locked_journal(self, path, true, wait)?)
     }

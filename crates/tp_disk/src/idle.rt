@@ -37,11 +37,7 @@ pub struct IdleJournal<'a, D: Disk> {
 
 /// The journal was left with all that is in it on the disk: its file's stamp, which was taken before another can have the
 /// lock. `None` where that can't be said; it ends in any case.
-pub fn left_stamp<D: Disk>(
-    rt: &D,
-    path: &str,
-    journal: DurableJournal<D::File>,
-) -> Option<Stamp> {
+pub fn left_stamp<D: Disk>(rt: &D, path: &str, journal: DurableJournal<D::File>) -> Option<Stamp> {
     let mut journal = journal;
     match rt.leave(path, &mut journal) {
         Ok(()) => rt.stamp(path),
@@ -54,7 +50,6 @@ impl<'a, D: Disk> IdleJournal<'a, D> {
     /// are on the disk: who left the file with that stamp brought them there. Its lock is waited for `wait` seconds.
     ///
     /// `None` where they don't recover, and where more is in them than what is kept: another writes them, or they are damaged.
-    #[tactic(auto, using(crate::proofs::IdleLaws::whole_len))]
     pub fn finish(
         rt: &'a D,
         path: &'a str,

@@ -47,11 +47,15 @@ module _ (saw : DiskView → Type 0) (file : List ℕ) where
         → IsDrawn key actor → Reopens (journal_state content device) actor p → IsIdle saw file key p
     idle_at_first bytes content device actor p was same drawn reopens = record {
       start = p;
-      opens = (bytes, was, record {
-        generator = drawn.0;
-        keyed = drawn.1;
-        opens = record { opened = journal_state content device; content = same; reopens = subst (λ a. Reopens (journal_state content device) a p) drawn.2 reopens };
-      });
+      opens = (
+        bytes,
+        was,
+        record {
+          generator = drawn.0;
+          keyed = drawn.1;
+          opens = record { opened = journal_state content device; content = same; reopens = subst (λ a. Reopens (journal_state content device) a p) drawn.2 reopens };
+        },
+      );
       times = [];
       sessions = refl;
     }

@@ -282,17 +282,7 @@ pub fn follow_file<R: Disk + Net + Clock + AllocGlobal, W: Write, E: Write>(
             return Ok(());
         }
         pause(rt, turn, how.every);
-        held += follow_once(
-            rt,
-            file,
-            how,
-            held > 0,
-            key,
-            out,
-            err,
-            cut,
-            &mut between,
-        )?;
+        held += follow_once(rt, file, how, held > 0, key, out, err, cut, &mut between)?;
     }
     Err(JobError::Command(CommandError::Io))
 }

@@ -71,13 +71,7 @@ impl Window {
                 actor,
                 heads,
                 count,
-            } => Ok(Outcome::Made(made_by(
-                alloc,
-                peer.document(),
-                actor,
-                heads,
-                *count,
-            )?)),
+            } => Ok(Outcome::Made(made_by(alloc, peer.document(), actor, heads, *count)?)),
             Request::Edit(edit) => Ok(Outcome::Edit(self.edit_typed(alloc, peer, edit, time)?)),
             Request::Look { heads, on } => Ok(Outcome::News(news_since(
                 alloc,
