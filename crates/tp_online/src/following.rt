@@ -251,9 +251,9 @@ fn pause<R: Clock>(rt: &R, turn: u64, every: Duration) {
 ///
 /// A refusal of the first session ends it. A later one as `Io` or `Busy` is waited out, as often as it comes, and every other
 /// one ends it; so does an output that fails.
-pub fn follow_file<R: Disk + Net + Clock + AllocGlobal, W: Write, E: Write>(
-    rt: &R,
-    file: &str,
+pub fn follow_file<'a, R: Disk + Net + Clock + AllocGlobal, W: Write, E: Write>(
+    rt: &'a R,
+    file: &'a str,
     how: &Following,
     sessions: u64,
     key: Option<[u8; 32]>,

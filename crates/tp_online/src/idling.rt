@@ -25,7 +25,6 @@ pub(crate) struct Between<'a, R: Disk> {
 }
 
 // The peer on the journal that is read of the file, where it was left so.
-#[tactic(auto, using(crate::proofs::FollowLaws::idle_at_first))]
 fn read_peer<'a, R: Disk + AllocGlobal>(
     rt: &'a R,
     file: &'a str,
@@ -93,7 +92,6 @@ fn is_for_now(error: &JobError, had_file: bool) -> bool {
 
 /// Holds one session with the server, of a peer whose journal nobody has: it takes the lock only where something is appended.
 /// How many changes entered, or `None` where a session may be held later. The peer is kept where nothing entered.
-#[tactic(auto, using(crate::proofs::FollowLaws::idle_still, crate::proofs::FollowLaws::met_idle))]
 pub(crate) fn meet_idle<'a, R: Disk + Net + AllocGlobal>(
     rt: &'a R,
     file: &'a str,
