@@ -23,10 +23,10 @@ _textpeer() {
     # Of the command: its values, those that come after them, its options, and which of these take a value.
     local values rest='' takes='' place=0 name journal=''
     case ${words[1]} in
-    new) values=(file) options='--key --explain -h --help' takes='--key' ;;
-    edit) values=(file) options='--at --del --text --text-file --time --message --key --explain -h --help' takes='--at --del --text --text-file --time --message --key' ;;
-    update) values=(file file) options='--time --message --key --since --explain -h --help' takes='--time --message --key --since' ;;
-    import) values=(file file) options='--time --message --key --explain -h --help' takes='--time --message --key' ;;
+    new) values=(file) options='--wait --key --explain -h --help' takes='--wait --key' ;;
+    edit) values=(file) options='--at --del --text --text-file --time --message --wait --key --explain -h --help' takes='--at --del --text --text-file --time --message --wait --key' ;;
+    update) values=(file file) options='--time --message --wait --key --since --explain -h --help' takes='--time --message --wait --key --since' ;;
+    import) values=(file file) options='--time --message --wait --key --explain -h --help' takes='--time --message --wait --key' ;;
     text) values=(file hash) rest=hash options='--raw --explain -h --help' ;;
     heads) values=(file) options='--explain -h --help' ;;
     log) values=(file) options='--pretty --most --explain -h --help' takes='--most' ;;
@@ -35,16 +35,16 @@ _textpeer() {
     status) values=(file) options='--explain -h --help' ;;
     cursor) values=(file other hash) rest=hash options='--explain -h --help' ;;
     check) values=(file) options='--explain -h --help' ;;
-    merge) values=(file file) options='--key --explain -h --help' takes='--key' ;;
+    merge) values=(file file) options='--wait --key --explain -h --help' takes='--wait --key' ;;
     save) values=(file file) options='--explain -h --help' ;;
-    load) values=(file file) options='--explain -h --help' ;;
-    recover) values=(file file) options='--explain -h --help' ;;
+    load) values=(file file) options='--wait --explain -h --help' takes='--wait' ;;
+    recover) values=(file file) options='--with --texts --explain -h --help' takes='--with' ;;
     show) values=(file) options='--explain -h --help' ;;
     simulate) values=(file) options='--explain -h --help' ;;
-    serve) values=(file other) options='--sessions --workers --patience --verbose --key --explain -h --help' takes='--sessions --workers --patience --key' ;;
-    sync) values=(file other) options='--follow --sessions --patience --key --explain -h --help' takes='--sessions --patience --key' ;;
-    session) values=(file) options='--client --key --explain -h --help' takes='--key' ;;
-    web) values=(file other) options='--serve --follow --key --explain -h --help' takes='--serve --follow --key' ;;
+    serve) values=(file other) options='--sessions --workers --patience --verbose --wait --key --explain -h --help' takes='--sessions --workers --patience --wait --key' ;;
+    sync) values=(file other) options='--follow --sessions --patience --wait --key --explain -h --help' takes='--sessions --patience --wait --key' ;;
+    session) values=(file) options='--client --wait --key --explain -h --help' takes='--wait --key' ;;
+    web) values=(file other) options='--serve --follow --wait --key --explain -h --help' takes='--serve --follow --wait --key' ;;
     *) return ;;
     esac
     options=" $options "

@@ -11,7 +11,7 @@ function __textpeer_place
     set -l words (commandline -opc)[3..]
     set -l place 1
     while set -q words[1]
-        if contains -- $words[1] --at --del --follow --key --message --most --patience --serve --sessions --since --text --text-file --time --to --workers
+        if contains -- $words[1] --at --del --follow --key --message --most --patience --serve --sessions --since --text --text-file --time --to --wait --with --workers
             set -e words[1]
             set -q words[1]; or set place 0
         else if not string match -q -- '-*' $words[1]
@@ -33,6 +33,7 @@ complete -c textpeer -n __fish_use_subcommand -s h -l help -d 'Print help'
 complete -c textpeer -n __fish_use_subcommand -s V -l version -d 'Print version'
 complete -c textpeer -n __fish_use_subcommand -a new -d 'Begins a journal, and prints the identifier of its document'
 complete -c textpeer -n '__textpeer_does new; and test (__textpeer_place) -eq 1' -F
+complete -c textpeer -n '__textpeer_does new; and not __fish_contains_opt wait' -l wait -x -d 'how long FILE'\''s lock is waited for where another program has it, in seconds to 86400. Not at all if 0 [default: 5]'
 complete -c textpeer -n '__textpeer_does new; and not __fish_contains_opt key' -l key -x -d 'the key of the random numbers, in 64 hexadecimal digits; from /dev/urandom if left out'
 complete -c textpeer -n '__textpeer_does new; and not __fish_contains_opt explain' -l explain -d 'says below a refusal which file it is about and what to do, as always on a terminal'
 complete -c textpeer -n '__textpeer_does new; and not __fish_contains_opt -s h help' -s h -l help -d 'Print help'
@@ -44,6 +45,7 @@ complete -c textpeer -n '__textpeer_does edit; and not __fish_contains_opt text'
 complete -c textpeer -n '__textpeer_does edit; and not __fish_contains_opt text-file' -l text-file -x -d 'in place of --text, a file of the text; - is the standard input'
 complete -c textpeer -n '__textpeer_does edit; and not __fish_contains_opt time' -l time -x -d 'the time of the change [default: 0]'
 complete -c textpeer -n '__textpeer_does edit; and not __fish_contains_opt message' -l message -x -d 'the message of the change; empty if left out'
+complete -c textpeer -n '__textpeer_does edit; and not __fish_contains_opt wait' -l wait -x -d 'how long FILE'\''s lock is waited for where another program has it, in seconds to 86400. Not at all if 0 [default: 5]'
 complete -c textpeer -n '__textpeer_does edit; and not __fish_contains_opt key' -l key -x -d 'the key of the random numbers, in 64 hexadecimal digits; from /dev/urandom if left out'
 complete -c textpeer -n '__textpeer_does edit; and not __fish_contains_opt explain' -l explain -d 'says below a refusal which file it is about and what to do, as always on a terminal'
 complete -c textpeer -n '__textpeer_does edit; and not __fish_contains_opt -s h help' -s h -l help -d 'Print help'
@@ -52,6 +54,7 @@ complete -c textpeer -n '__textpeer_does update; and test (__textpeer_place) -eq
 complete -c textpeer -n '__textpeer_does update; and test (__textpeer_place) -eq 2' -F
 complete -c textpeer -n '__textpeer_does update; and not __fish_contains_opt time' -l time -x -d 'the time of the change [default: 0]'
 complete -c textpeer -n '__textpeer_does update; and not __fish_contains_opt message' -l message -x -d 'the message of the change; empty if left out'
+complete -c textpeer -n '__textpeer_does update; and not __fish_contains_opt wait' -l wait -x -d 'how long FILE'\''s lock is waited for where another program has it, in seconds to 86400. Not at all if 0 [default: 5]'
 complete -c textpeer -n '__textpeer_does update; and not __fish_contains_opt key' -l key -x -d 'the key of the random numbers, in 64 hexadecimal digits; from /dev/urandom if left out'
 complete -c textpeer -n '__textpeer_does update; and not __fish_contains_opt since' -l since -x -d 'the heads at which the file was taken out, as the last words: what came since stays; the text now if left out'
 complete -c textpeer -n '__textpeer_does update; and not __fish_contains_opt explain' -l explain -d 'says below a refusal which file it is about and what to do, as always on a terminal'
@@ -61,6 +64,7 @@ complete -c textpeer -n '__textpeer_does import; and test (__textpeer_place) -eq
 complete -c textpeer -n '__textpeer_does import; and test (__textpeer_place) -eq 2' -F
 complete -c textpeer -n '__textpeer_does import; and not __fish_contains_opt time' -l time -x -d 'the time of the change [default: 0]'
 complete -c textpeer -n '__textpeer_does import; and not __fish_contains_opt message' -l message -x -d 'the message of the change; empty if left out'
+complete -c textpeer -n '__textpeer_does import; and not __fish_contains_opt wait' -l wait -x -d 'how long FILE'\''s lock is waited for where another program has it, in seconds to 86400. Not at all if 0 [default: 5]'
 complete -c textpeer -n '__textpeer_does import; and not __fish_contains_opt key' -l key -x -d 'the key of the random numbers, in 64 hexadecimal digits; from /dev/urandom if left out'
 complete -c textpeer -n '__textpeer_does import; and not __fish_contains_opt explain' -l explain -d 'says below a refusal which file it is about and what to do, as always on a terminal'
 complete -c textpeer -n '__textpeer_does import; and not __fish_contains_opt -s h help' -s h -l help -d 'Print help'
@@ -106,6 +110,7 @@ complete -c textpeer -n '__textpeer_does check; and not __fish_contains_opt -s h
 complete -c textpeer -n __fish_use_subcommand -a merge -d 'Takes the changes of another journal of the document, and prints how many entered'
 complete -c textpeer -n '__textpeer_does merge; and test (__textpeer_place) -eq 1' -F
 complete -c textpeer -n '__textpeer_does merge; and test (__textpeer_place) -eq 2' -F
+complete -c textpeer -n '__textpeer_does merge; and not __fish_contains_opt wait' -l wait -x -d 'how long FILE'\''s lock is waited for where another program has it, in seconds to 86400. Not at all if 0 [default: 5]'
 complete -c textpeer -n '__textpeer_does merge; and not __fish_contains_opt key' -l key -x -d 'the key of the random numbers, in 64 hexadecimal digits; from /dev/urandom if left out'
 complete -c textpeer -n '__textpeer_does merge; and not __fish_contains_opt explain' -l explain -d 'says below a refusal which file it is about and what to do, as always on a terminal'
 complete -c textpeer -n '__textpeer_does merge; and not __fish_contains_opt -s h help' -s h -l help -d 'Print help'
@@ -117,11 +122,14 @@ complete -c textpeer -n '__textpeer_does save; and not __fish_contains_opt -s h 
 complete -c textpeer -n __fish_use_subcommand -a load -d 'Makes a journal of a saved file'
 complete -c textpeer -n '__textpeer_does load; and test (__textpeer_place) -eq 1' -F
 complete -c textpeer -n '__textpeer_does load; and test (__textpeer_place) -eq 2' -F
+complete -c textpeer -n '__textpeer_does load; and not __fish_contains_opt wait' -l wait -x -d 'how long FILE'\''s lock is waited for where another program has it, in seconds to 86400. Not at all if 0 [default: 5]'
 complete -c textpeer -n '__textpeer_does load; and not __fish_contains_opt explain' -l explain -d 'says below a refusal which file it is about and what to do, as always on a terminal'
 complete -c textpeer -n '__textpeer_does load; and not __fish_contains_opt -s h help' -s h -l help -d 'Print help'
 complete -c textpeer -n __fish_use_subcommand -a recover -d 'Makes a journal of all that can be had of a damaged one, and says how many changes came and from which bytes none did'
 complete -c textpeer -n '__textpeer_does recover; and test (__textpeer_place) -eq 1' -F
 complete -c textpeer -n '__textpeer_does recover; and test (__textpeer_place) -eq 2' -F
+complete -c textpeer -n '__textpeer_does recover; and not __fish_contains_opt with' -l with -x -d 'another file whose whole changes enter too, once for each: what was cut off, or a copy of the journal'
+complete -c textpeer -n '__textpeer_does recover; and not __fish_contains_opt texts' -l texts -d 'makes no journal, and prints what the whole changes inserted, in their order: a last resort'
 complete -c textpeer -n '__textpeer_does recover; and not __fish_contains_opt explain' -l explain -d 'says below a refusal which file it is about and what to do, as always on a terminal'
 complete -c textpeer -n '__textpeer_does recover; and not __fish_contains_opt -s h help' -s h -l help -d 'Print help'
 complete -c textpeer -n __fish_use_subcommand -a show -d 'Prints the text that a log of changes makes'
@@ -138,6 +146,7 @@ complete -c textpeer -n '__textpeer_does serve; and not __fish_contains_opt sess
 complete -c textpeer -n '__textpeer_does serve; and not __fish_contains_opt workers' -l workers -x -d 'how many sessions are held at once, 1 to 64 [default: 2]'
 complete -c textpeer -n '__textpeer_does serve; and not __fish_contains_opt patience' -l patience -x -d 'how long the other side may say nothing, in seconds to 86400; then its session ends. For ever if 0 [default: 30]'
 complete -c textpeer -n '__textpeer_does serve; and not __fish_contains_opt verbose' -l verbose -d 'prints a line on the standard error for each session as it ends'
+complete -c textpeer -n '__textpeer_does serve; and not __fish_contains_opt wait' -l wait -x -d 'how long FILE'\''s lock is waited for where another program has it, in seconds to 86400. Not at all if 0 [default: 5]'
 complete -c textpeer -n '__textpeer_does serve; and not __fish_contains_opt key' -l key -x -d 'the key of the random numbers, in 64 hexadecimal digits; from /dev/urandom if left out'
 complete -c textpeer -n '__textpeer_does serve; and not __fish_contains_opt explain' -l explain -d 'says below a refusal which file it is about and what to do, as always on a terminal'
 complete -c textpeer -n '__textpeer_does serve; and not __fish_contains_opt -s h help' -s h -l help -d 'Print help'
@@ -146,12 +155,14 @@ complete -c textpeer -n '__textpeer_does sync; and test (__textpeer_place) -eq 1
 complete -c textpeer -n '__textpeer_does sync; and not __fish_contains_opt follow' -l follow -d 'goes on with one session after another, so many seconds between two, 1 to 86400; 5 if none are given'
 complete -c textpeer -n '__textpeer_does sync; and not __fish_contains_opt sessions' -l sessions -x -d 'with --follow: how many sessions are held; then it ends. If left out it goes on until it is ended'
 complete -c textpeer -n '__textpeer_does sync; and not __fish_contains_opt patience' -l patience -x -d 'how long the other side may say nothing, in seconds to 86400; then its session ends. For ever if 0 [default: 30]'
+complete -c textpeer -n '__textpeer_does sync; and not __fish_contains_opt wait' -l wait -x -d 'how long FILE'\''s lock is waited for where another program has it, in seconds to 86400. Not at all if 0 [default: 5]'
 complete -c textpeer -n '__textpeer_does sync; and not __fish_contains_opt key' -l key -x -d 'the key of the random numbers, in 64 hexadecimal digits; from /dev/urandom if left out'
 complete -c textpeer -n '__textpeer_does sync; and not __fish_contains_opt explain' -l explain -d 'says below a refusal which file it is about and what to do, as always on a terminal'
 complete -c textpeer -n '__textpeer_does sync; and not __fish_contains_opt -s h help' -s h -l help -d 'Print help'
 complete -c textpeer -n __fish_use_subcommand -a session -d 'Holds one session over the standard input and output, and says on the standard error how many changes entered here. It waits for the other side without a bound'
 complete -c textpeer -n '__textpeer_does session; and test (__textpeer_place) -eq 1' -F
 complete -c textpeer -n '__textpeer_does session; and not __fish_contains_opt client' -l client -d 'holds the client'\''s side; the server'\''s if left out'
+complete -c textpeer -n '__textpeer_does session; and not __fish_contains_opt wait' -l wait -x -d 'how long FILE'\''s lock is waited for where another program has it, in seconds to 86400. Not at all if 0 [default: 5]'
 complete -c textpeer -n '__textpeer_does session; and not __fish_contains_opt key' -l key -x -d 'the key of the random numbers, in 64 hexadecimal digits; from /dev/urandom if left out'
 complete -c textpeer -n '__textpeer_does session; and not __fish_contains_opt explain' -l explain -d 'says below a refusal which file it is about and what to do, as always on a terminal'
 complete -c textpeer -n '__textpeer_does session; and not __fish_contains_opt -s h help' -s h -l help -d 'Print help'
@@ -159,6 +170,7 @@ complete -c textpeer -n __fish_use_subcommand -a web -d 'Shows a journal as a pa
 complete -c textpeer -n '__textpeer_does web; and test (__textpeer_place) -eq 1' -F
 complete -c textpeer -n '__textpeer_does web; and not __fish_contains_opt serve' -l serve -x -d 'serves the journal beside the page too, at this address, as IP:PORT or HOST:PORT, and prints the port'
 complete -c textpeer -n '__textpeer_does web; and not __fish_contains_opt follow' -l follow -x -d 'exchanges changes each second with the server at this address, as IP:PORT or HOST:PORT'
+complete -c textpeer -n '__textpeer_does web; and not __fish_contains_opt wait' -l wait -x -d 'how long FILE'\''s lock is waited for where another program has it, in seconds to 86400. Not at all if 0 [default: 5]'
 complete -c textpeer -n '__textpeer_does web; and not __fish_contains_opt key' -l key -x -d 'the key of the random numbers, in 64 hexadecimal digits; from /dev/urandom if left out'
 complete -c textpeer -n '__textpeer_does web; and not __fish_contains_opt explain' -l explain -d 'says below a refusal which file it is about and what to do, as always on a terminal'
 complete -c textpeer -n '__textpeer_does web; and not __fish_contains_opt -s h help' -s h -l help -d 'Print help'

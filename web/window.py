@@ -2,6 +2,7 @@
 import base64
 import collections
 import contextlib
+import hashlib
 import hmac
 import json
 import os
@@ -38,6 +39,16 @@ def program():
 def run(folder, *words):
     """What a command prints, where it is done."""
     return subprocess.run([program(), *words], cwd=folder, stdout=subprocess.PIPE, check=True, timeout=PATIENCE).stdout.decode()
+
+
+def write_crowd(path, heads):
+    """A journal of as many heads: each is a change of an actor of its own, on no other, that inserts `x`."""
+    with path.open("wb") as journal:
+        journal.write(b"RGAJRNL1" + bytes(16))
+        for number in range(heads):
+            actor = struct.pack(">QQ", 1, number)
+            change = b"\1" + actor + struct.pack(">QQQHHI", 1, 1, 0, 0, 0, 1) + b"\1\0" + struct.pack(">I", 1) + b"x"
+            journal.write(struct.pack(">I", len(change)) + change + hashlib.sha256(change).digest())
 
 
 def head(line, *fields):

@@ -25,11 +25,10 @@ use Rattle.tp_command_line.specs.Rules.{few, numbers, pausing, waiting}
 use Rattle.tp_command_line.specs.Uses.{IsUse, always_has}
 use Rattle.tp_command_line.specs.Values.{HasFlag, HasNumber, HasValue, IsNumber, IsNumberIn, MayHaveNumber, is_flag, is_number, is_numeric, parser_named}
 use Rattle.tp_command_line.specs.LineError.{FailsAs, RefusesLine, IsPassedAs, RefusesValue, RefusesReading}
-use Rattle.tp_command_line.specs.declared.job.Job.{Job}
 use Rattle.tp_command_line.specs.declared.error.LineError.{LineError}
 use Rattle.tp_command_line.specs.declared.error.LineError.TheVariants.{Request, Fault, Value}
 use Rattle.tp_command_line.specs.declared.error.ValueError.{ValueError}
-use Rattle.tp_command_line.specs.declared.error.ValueError.TheVariants.{BadHex, BadAddress, BadPage, OutOfMemory, NotOneText}
+use Rattle.tp_command_line.specs.declared.error.ValueError.TheVariants.{BadHex, BadAddress, BadPage, OutOfMemory, NotOneText, NotOneOutput}
 use Rattle.tp_command_line.proofs.Rows.{HasFirst, one_taken}
 use Rattle.tp_command_line.proofs.Uses.{IsUseOf, all_filled, always_given, use_of}
 
@@ -41,16 +40,17 @@ value_of name id rows found has = let given = always_given name id rows found ha
 
 -- what reads a number takes numbers alone
 number_parser : (id : Text) → is_number id ≡ true → (low high : ℕ) × (parser_named id ≡ parser.Unsigned low high)
-number_parser id is = go (is_numeric id) (bytes_eq (codes "workers") id) (bytes_eq (codes "patience") id) (bytes_eq (codes "follow") id) is
+number_parser id is = go (is_numeric id) (bytes_eq (codes "workers") id) (bytes_eq (codes "patience") id) (bytes_eq (codes "wait") id) (bytes_eq (codes "follow") id) is
   where
-    go : (numeric workers patience follow : Bool) → (numeric || workers || patience || follow) ≡ true
-        → (low high : ℕ) × ((if numeric then numbers else if workers then few else if patience then waiting else if follow then pausing
+    go : (numeric workers patience wait follow : Bool) → (numeric || workers || patience || follow || wait) ≡ true
+        → (low high : ℕ) × ((if numeric then numbers else if workers then few else if patience then waiting else if wait then waiting else if follow then pausing
         else if is_flag id then parser.Bool else parser.String) ≡ parser.Unsigned low high)
-    go true w p f any = (_, _, refl)
-    go false true p f any = (_, _, refl)
-    go false false true f any = (_, _, refl)
-    go false false false true any = (_, _, refl)
-    go false false false false any = absurd (cc)
+    go true w p l f any = (_, _, refl)
+    go false true p l f any = (_, _, refl)
+    go false false true l f any = (_, _, refl)
+    go false false false true f any = (_, _, refl)
+    go false false false false true any = (_, _, refl)
+    go false false false false false any = absurd (cc)
 
 -- a value that it takes is a number
 number_taken : (id text : Text) → is_number id ≡ true → accepts false (parser_named id) text ≡ true → (n : ℕ) × IsNumber text n
@@ -202,9 +202,9 @@ caused kinds found said (Fault e) passed (inr among) = subst (λ (x : Error). Is
 caused kinds found said (Value e) passed has = subst (RefusesReading kinds found) (sym passed.0) tt
 
 -- an error is passed up as it is
-pub fails_as : (a : App) (words : List Text) (e : Error) (r : Result Job LineError) → a ≡ textpeer_app → IsErrAnd r (IsPassedAs e)
+pub fails_as : {T : Type 0} (a : App) (words : List Text) (e : Error) (r : Result T LineError) → a ≡ textpeer_app → IsErrAnd r (IsPassedAs e)
     → (is_simple_and_free a ≡ true → HasKind (fault_of a words) e) → FailsAs (fault_of textpeer_app words) (subcommand_of textpeer_app words) r
-fails_as a words e (Ok job) is passed has = absurd passed
+fails_as a words e (Ok wanted) is passed has = absurd passed
 fails_as a words e (Err y) is passed has =
     let kinds : HasKind (fault_of textpeer_app words) e = subst (λ (x : App). HasKind (fault_of x words) e) is (has (ap is_simple_and_free is)) in
     caused (fault_of textpeer_app words) (subcommand_of textpeer_app words) e y passed kinds
@@ -217,8 +217,9 @@ not_read kinds found name rows BadAddress none is bad = (name, rows, none, is, b
 not_read kinds found name rows BadPage none is bad = (name, rows, none, is, bad)
 not_read kinds found name rows OutOfMemory none is bad = tt
 not_read kinds found name rows NotOneText none is bad = (name, rows, none, is, bad)
+not_read kinds found name rows NotOneOutput none is bad = (name, rows, none, is, bad)
 
-pub value_fails : (kinds : Kinds) (found : Option (Text × List Row)) (name : Text) (rows : List Row) (e : ValueError) (r : Result Job LineError) → kinds ≡ []
+pub value_fails : {T : Type 0} (kinds : Kinds) (found : Option (Text × List Row)) (name : Text) (rows : List Row) (e : ValueError) (r : Result T LineError) → kinds ≡ []
     → found ≡ Some (name, rows) → IsErrAnd r (λ y. y ≡ Value e) → RefusesValue rows e → FailsAs kinds found r
-value_fails kinds found name rows e (Ok job) none is passed bad = absurd passed
+value_fails kinds found name rows e (Ok wanted) none is passed bad = absurd passed
 value_fails kinds found name rows e (Err y) none is passed bad = subst (RefusesLine kinds found) (sym passed) (not_read kinds found name rows e none is bad)

@@ -16,7 +16,7 @@ use Rattle.clap.specs.declared.builder.value_parser.ValueParser.{ValueParser}
 use Rattle.clap.specs.declared.builder.value_parser.ValueParser.TheVariants as parser
 use Rattle.clap.specs.declared.builder.value_parser.ValueParser.TheVariants.{String}
 use Rattle.tp_command_line.specs.Commands.{textpeer_app}
-use Rattle.tp_command_line.specs.Rules.{few, file_rule, flag_rule, follow_rule, key_rule, list_rule, mandatory, message_rule, most_rule, numbers, numeric, option_rule, options_rule, page_rule, patience_rule, pausing, required_rule, server_rule, sessions_rule, several, time_rule, waiting, workers_rule}
+use Rattle.tp_command_line.specs.Rules.{few, file_rule, flag_rule, follow_rule, key_rule, list_rule, mandatory, message_rule, most_rule, numbers, numeric, option_rule, optional_rule, options_rule, page_rule, patience_rule, pausing, required_rule, server_rule, sessions_rule, several, time_rule, waiting, workers_rule, wait_rule}
 use Rattle.tp_command_line.specs.Uses.{IsUse, always_has, has_default, is_required, shape_named}
 use Rattle.tp_command_line.specs.Values.{parser_named}
 use Rattle.tp_command_line.proofs.Rows.{AllFilled, AllTaken, HasFirst, or_else_none, values_taken, with_values_filled, without_filled}
@@ -159,6 +159,9 @@ workers_sound = single_sound few (placed 2 workers_rule) refl refl refl
 patience_sound : IsSound (placed 2 patience_rule)
 patience_sound = single_sound waiting (placed 2 patience_rule) refl refl refl
 
+wait_sound : IsSound (placed 2 wait_rule)
+wait_sound = single_sound waiting (placed 2 wait_rule) refl refl refl
+
 follow_sound : IsSound (placed 2 follow_rule)
 follow_sound = record { fills = optional_fills pausing (codes "5") (placed 2 follow_rule) refl refl refl; defaults = refl; reading = refl }
 
@@ -175,6 +178,9 @@ repeated_fills a is again (v ∷ vs) rows e h =
     let taken : AllTaken a.id (v ∷ vs) = subst (λ (q : ValueParser). list_all (accepts false q) (v ∷ vs) ≡ true) is (values_taken String (v ∷ vs) (or_else_none _ _ e).1) in
     with_values_filled _ _ _ v vs rows refl taken h
 
+with_sound : IsSound (placed 2 (options_rule (codes "with")))
+with_sound = record { fills = repeated_fills (placed 2 (options_rule (codes "with"))) refl; defaults = refl; reading = refl }
+
 to_sound : IsSound (placed 2 (options_rule (codes "to")))
 to_sound = record { fills = repeated_fills (placed 2 (options_rule (codes "to"))) refl; defaults = refl; reading = refl }
 
@@ -189,6 +195,12 @@ client_sound = record { fills = flag_fills (placed 2 (flag_rule (codes "client")
 
 raw_sound : IsSound (placed 2 (flag_rule (codes "raw")))
 raw_sound = record { fills = flag_fills (placed 2 (flag_rule (codes "raw"))) refl; defaults = refl; reading = refl }
+
+texts_sound : IsSound (placed 2 (flag_rule (codes "texts")))
+texts_sound = record { fills = flag_fills (placed 2 (flag_rule (codes "texts"))) refl; defaults = refl; reading = refl }
+
+made_sound : IsSound (placed 2 (optional_rule (codes "OUT")))
+made_sound = single_sound String (placed 2 (optional_rule (codes "OUT"))) refl refl refl
 
 heads_sound : (i : ℕ) (required : Bool) → IsSound (placed i (record (several (codes "HASH")) { required = required }))
 heads_sound i required = record { fills = many_fills (placed i (record (several (codes "HASH")) { required = required })) refl; defaults = refl; reading = refl }
@@ -240,12 +252,16 @@ all_sound = assumption (
   sessions_sound,
   workers_sound,
   patience_sound,
+  wait_sound,
   follow_sound,
   verbose_sound,
   client_sound,
   raw_sound,
   most_sound,
   to_sound,
+  with_sound,
+  texts_sound,
+  made_sound,
   since_sound,
   pretty_sound,
   heads_sound 2 false,

@@ -1,19 +1,19 @@
 -- The commands of `textpeer`: the shape of each, as clap's definition for simple commands reads it, and the job that it asks for.
-use Rattle.std.specs.Prelude.{◌≡◌, ◌≢◌, List, [], ◌∷◌, ◌++◌, Option, Some, None, true, false, codes, slice_get}
+use Rattle.std.specs.Prelude.{◌≡◌, ◌≢◌, ℕ, List, [], ◌∷◌, ◌++◌, Option, Some, None, true, false, codes, slice_get}
 use Rattle.std.specs.Borrow.{Bor}
 use Rattle.clap.specs.Simple.{new_shape as named_shape}
 use Rattle.clap.specs.Words.{App, Row, Rule, Shape, Text, app_of, first_of}
 use Rattle.clap.specs.declared.builder.command.Command.{Command}
 use Rattle.clap.specs.declared.builder.command.Command.TheViews.{out-Command}
 use Rattle.tp_command_line.specs.declared.job.FileJob.TheVariants.{New, Edit, Update, Import, Text as ReadText, Heads, Log, Graph, Diff, Status, Cursor, Check, Merge, Save, Load, Recover, Show, Simulate}
-use Rattle.tp_command_line.specs.declared.job.Beside.TheVariants.{Here, Loaded, Made, NoJournal, Nothing, Page, Read, Streams, Text as ReadBeside, There}
+use Rattle.tp_command_line.specs.declared.job.Beside.TheVariants.{Here, Loaded, Made, NoJournal, Nothing, Page, Read, Rescued, Streams, Text as ReadBeside, There}
 use Rattle.tp_command_line.specs.declared.job.Inserted.{Inserted}
 use Rattle.tp_command_line.specs.declared.job.Inserted.TheVariants.{Given, InFile}
 use Rattle.tp_command_line.specs.declared.job.Job.{Job}
 use Rattle.tp_command_line.specs.declared.job.Subject.{Subject}
 use Rattle.tp_command_line.specs.declared.job.Job.TheVariants.{Files, Follow, Serve, Session, Sync, Web}
-use Rattle.tp_command_line.specs.Rules.{file_rule, flag_rule, follow_rule, key_rule, list_rule, mandatory, message_rule, most_rule, numeric, option_rule, options_rule, page_rule, patience_rule, required_rule, server_rule, sessions_rule, several, time_rule, workers_rule}
-use Rattle.tp_command_line.specs.Values.{HasAddress, HasFlag, HasHashes, HasHeads, HasHosting, HasKey, HasNumber, MayHaveNumber}
+use Rattle.tp_command_line.specs.Rules.{file_rule, flag_rule, follow_rule, key_rule, list_rule, mandatory, message_rule, most_rule, numeric, option_rule, optional_rule, options_rule, page_rule, patience_rule, required_rule, server_rule, sessions_rule, several, time_rule, workers_rule, wait_rule}
+use Rattle.tp_command_line.specs.Values.{HasAddress, HasFlag, HasHashes, HasHeads, HasHosting, HasKey, HasNumber, HasTexts, MayHaveNumber}
 
 -- ---- shapes
 
@@ -21,9 +21,9 @@ use Rattle.tp_command_line.specs.Values.{HasAddress, HasFlag, HasHashes, HasHead
 abbrev pub with_rules : Text → List Rule → Shape
 with_rules name rules = record (named_shape name) { rules = rules }
 
--- `new FILE [--key HEX]`
+-- `new FILE [--wait SECONDS] [--key HEX]`
 abbrev pub new_shape : Shape
-new_shape = with_rules (codes "new") (file_rule ∷ key_rule ∷ [])
+new_shape = with_rules (codes "new") (file_rule ∷ wait_rule ∷ key_rule ∷ [])
 
 -- `edit FILE --at N --del N`
 abbrev pub edit_at_shape : Shape
@@ -31,16 +31,16 @@ edit_at_shape = with_rules (codes "edit")
     (file_rule ∷ mandatory (numeric (option_rule (codes "at")))
     ∷ mandatory (numeric (option_rule (codes "del"))) ∷ [])
 
--- `edit FILE --at N --del N`, and `--text T` or `--text-file F`, `[--time N] [--message M] [--key HEX]`; of the texts
--- the rules ask for none
+-- `edit FILE --at N --del N`, and `--text T` or `--text-file F`, `[--time N] [--message M] [--wait SECONDS]
+-- [--key HEX]`; of the texts the rules ask for none
 abbrev pub edit_shape : Shape
 edit_shape = with_rules (codes "edit") (edit_at_shape.rules
-    ++ option_rule (codes "text") ∷ option_rule (codes "text-file") ∷ time_rule ∷ message_rule ∷ key_rule ∷ [])
+    ++ option_rule (codes "text") ∷ option_rule (codes "text-file") ∷ time_rule ∷ message_rule ∷ wait_rule ∷ key_rule ∷ [])
 
--- `FILE TEXT [--time N] [--message M] [--key HEX]`
+-- `FILE TEXT [--time N] [--message M] [--wait SECONDS] [--key HEX]`
 abbrev pub whole_text_shape : Text → Shape
 whole_text_shape name = with_rules name
-    (file_rule ∷ required_rule (codes "TEXT") ∷ time_rule ∷ message_rule ∷ key_rule ∷ [])
+    (file_rule ∷ required_rule (codes "TEXT") ∷ time_rule ∷ message_rule ∷ wait_rule ∷ key_rule ∷ [])
 
 -- `update` with these, and `[--since HASH ..]`
 abbrev pub update_shape : Shape
@@ -83,21 +83,22 @@ cursor_shape = with_rules (codes "cursor")
 abbrev pub check_shape : Shape
 check_shape = with_rules (codes "check") (file_rule ∷ [])
 
--- `merge FILE OTHER [--key HEX]`
+-- `merge FILE OTHER [--wait SECONDS] [--key HEX]`
 abbrev pub merge_shape : Shape
-merge_shape = with_rules (codes "merge") (file_rule ∷ required_rule (codes "OTHER") ∷ key_rule ∷ [])
+merge_shape = with_rules (codes "merge") (file_rule ∷ required_rule (codes "OTHER") ∷ wait_rule ∷ key_rule ∷ [])
 
 -- `save FILE OUT`
 abbrev pub save_shape : Shape
 save_shape = with_rules (codes "save") (file_rule ∷ required_rule (codes "OUT") ∷ [])
 
--- `load SAVED FILE`
+-- `load SAVED FILE [--wait SECONDS]`
 abbrev pub load_shape : Shape
-load_shape = with_rules (codes "load") (required_rule (codes "SAVED") ∷ file_rule ∷ [])
+load_shape = with_rules (codes "load") (required_rule (codes "SAVED") ∷ file_rule ∷ wait_rule ∷ [])
 
--- `recover FILE OUT`
+-- `recover FILE`, and `OUT` or `--texts`, `[--with OTHER]`, also several times; of the two the rules ask for none
 abbrev pub recover_shape : Shape
-recover_shape = with_rules (codes "recover") (file_rule ∷ required_rule (codes "OUT") ∷ [])
+recover_shape = with_rules (codes "recover")
+    (file_rule ∷ optional_rule (codes "OUT") ∷ options_rule (codes "with") ∷ flag_rule (codes "texts") ∷ [])
 
 -- `show LOG`
 abbrev pub show_shape : Shape
@@ -107,22 +108,22 @@ show_shape = with_rules (codes "show") (required_rule (codes "LOG") ∷ [])
 abbrev pub simulate_shape : Shape
 simulate_shape = with_rules (codes "simulate") (required_rule (codes "SCRIPT") ∷ [])
 
--- `serve FILE ADDR [--sessions N] [--workers N] [--patience SECONDS] [--verbose] [--key HEX]`
+-- `serve FILE ADDR [--sessions N] [--workers N] [--patience SECONDS] [--verbose] [--wait SECONDS] [--key HEX]`
 abbrev pub serve_shape : Shape
 serve_shape = with_rules (codes "serve") (file_rule ∷ required_rule (codes "ADDR") ∷ sessions_rule ∷ workers_rule ∷ patience_rule
-    ∷ flag_rule (codes "verbose") ∷ key_rule ∷ [])
+    ∷ flag_rule (codes "verbose") ∷ wait_rule ∷ key_rule ∷ [])
 
--- `sync FILE ADDR [--follow [SECONDS]] [--sessions N] [--patience SECONDS] [--key HEX]`
+-- `sync FILE ADDR [--follow [SECONDS]] [--sessions N] [--patience SECONDS] [--wait SECONDS] [--key HEX]`
 abbrev pub sync_shape : Shape
-sync_shape = with_rules (codes "sync") (file_rule ∷ required_rule (codes "ADDR") ∷ follow_rule ∷ sessions_rule ∷ patience_rule ∷ key_rule ∷ [])
+sync_shape = with_rules (codes "sync") (file_rule ∷ required_rule (codes "ADDR") ∷ follow_rule ∷ sessions_rule ∷ patience_rule ∷ wait_rule ∷ key_rule ∷ [])
 
--- `session FILE [--client] [--key HEX]`
+-- `session FILE [--client] [--wait SECONDS] [--key HEX]`
 abbrev pub session_shape : Shape
-session_shape = with_rules (codes "session") (file_rule ∷ flag_rule (codes "client") ∷ key_rule ∷ [])
+session_shape = with_rules (codes "session") (file_rule ∷ flag_rule (codes "client") ∷ wait_rule ∷ key_rule ∷ [])
 
--- `web FILE [PAGE] [--serve ADDR] [--follow ADDR] [--key HEX]`
+-- `web FILE [PAGE] [--serve ADDR] [--follow ADDR] [--wait SECONDS] [--key HEX]`
 abbrev pub web_shape : Shape
-web_shape = with_rules (codes "web") (file_rule ∷ page_rule ∷ option_rule (codes "serve") ∷ server_rule ∷ key_rule ∷ [])
+web_shape = with_rules (codes "web") (file_rule ∷ page_rule ∷ option_rule (codes "serve") ∷ server_rule ∷ wait_rule ∷ key_rule ∷ [])
 
 -- the command has this shape, and no subcommand and no argument that subcommands have too
 pub record IsLeaf (s : Shape) (c : Command) : Type 0 where
@@ -169,6 +170,11 @@ abbrev pub HasInserted : List Row → Inserted → Type 0
 HasInserted rows (Given text) = HasText (codes "text") rows text × (first_of (codes "text-file") rows ≡ None)
 HasInserted rows (InFile path) = HasText (codes "text-file") rows path × (first_of (codes "text") rows ≡ None)
 
+-- a journal is to be made at the path, or none, and the texts of the records are to be printed
+abbrev pub HasOutput : List Row → Option (Bor Text) → Type 0
+HasOutput rows (Some out) = HasText (codes "OUT") rows out × HasFlag (codes "texts") rows false
+HasOutput rows None = (first_of (codes "OUT") rows ≡ None) × HasFlag (codes "texts") rows true
+
 -- the job is that of the subcommand with this name, and its values are those of the arguments
 abbrev pub IsJobOf : Text → List Row → Job → Type 0
 IsJobOf name rows (Files (New file key)) = (name ≡ codes "new") × HasText (codes "FILE") rows file × HasKey rows key
@@ -198,7 +204,8 @@ IsJobOf name rows (Files (Merge file other key)) = (name ≡ codes "merge")
     × HasText (codes "FILE") rows file × HasText (codes "OTHER") rows other × HasKey rows key
 IsJobOf name rows (Files (Save file out)) = (name ≡ codes "save") × HasText (codes "FILE") rows file × HasText (codes "OUT") rows out
 IsJobOf name rows (Files (Load saved file)) = (name ≡ codes "load") × HasText (codes "SAVED") rows saved × HasText (codes "FILE") rows file
-IsJobOf name rows (Files (Recover file out)) = (name ≡ codes "recover") × HasText (codes "FILE") rows file × HasText (codes "OUT") rows out
+IsJobOf name rows (Files (Recover file out others)) = (name ≡ codes "recover") × HasText (codes "FILE") rows file × HasOutput rows out
+    × HasTexts (codes "with") rows others.items
 IsJobOf name rows (Files (Show log)) = (name ≡ codes "show") × HasText (codes "LOG") rows log
 IsJobOf name rows (Files (Simulate script)) = (name ≡ codes "simulate") × HasText (codes "SCRIPT") rows script
 IsJobOf name rows (Serve file addr sessions workers patience is_verbose key) = (name ≡ codes "serve") × HasText (codes "FILE") rows file
@@ -218,6 +225,10 @@ IsJobOf name rows (Web file hosting key) = (name ≡ codes "web") × HasText (co
 abbrev pub IsFoundAs : Option (Text × List Row) → Job → Type 0
 IsFoundAs found job = (name : Text) × (rows : List Row) × (found ≡ Some (name, rows)) × IsJobOf name rows job
 
+-- for that many seconds the lock of a journal is waited for: as the subcommand that was found says, where it has that option
+abbrev pub WaitsAs : Option (Text × List Row) → Option ℕ → Type 0
+WaitsAs found wait = (name : Text) × (rows : List Row) × (found ≡ Some (name, rows)) × MayHaveNumber (codes "wait") rows wait
+
 -- the job shows the log at the path
 abbrev pub IsShow : Text → Job → Type 0
 IsShow path job = (log : Bor Text) × (job ≡ Files (Show log)) × (log.now ≡ path)
@@ -235,7 +246,7 @@ abbrev pub subject_of : Job → Subject
 subject_of (Files (Merge file other key)) = record { file = file; beside = Read other }
 subject_of (Files (Save file out)) = record { file = file; beside = Made out }
 subject_of (Files (Load saved file)) = record { file = saved; beside = Loaded file }
-subject_of (Files (Recover file out)) = record { file = file; beside = Made out }
+subject_of (Files (Recover file out others)) = record { file = file; beside = Rescued out (slice_get others.items 0) }
 subject_of (Files (New file key)) = record { file = file; beside = Made file }
 subject_of (Files (Edit file at del (Given text) time message key)) = record { file = file; beside = Nothing }
 subject_of (Files (Edit file at del (InFile source) time message key)) = record { file = file; beside = ReadBeside source }

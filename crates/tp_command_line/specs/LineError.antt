@@ -6,11 +6,11 @@ use Rattle.clap.specs.declared.error.kind.ErrorKind.{ErrorKind}
 use Rattle.clap.specs.declared.error.kind.ErrorKind.TheVariants as kind
 use Rattle.tp_opid.specs.declared.hex_text.HexError.{HexError}
 use Rattle.tp_opid.specs.declared.hex_text.HexError.TheVariants as hex
-use Rattle.tp_command_line.specs.Values.{HasNumber, HasValue, IsNoAddress, IsNoHash, IsNoPage, all_hashes, is_of_address}
+use Rattle.tp_command_line.specs.Values.{HasFlag, HasNumber, HasValue, IsNoAddress, IsNoHash, IsNoPage, all_hashes, is_of_address}
 use Rattle.tp_command_line.specs.declared.error.LineError.{LineError}
 use Rattle.tp_command_line.specs.declared.error.LineError.TheVariants.{Request, Fault, Value}
 use Rattle.tp_command_line.specs.declared.error.ValueError.{ValueError}
-use Rattle.tp_command_line.specs.declared.error.ValueError.TheVariants.{BadHex, BadAddress, BadPage, OutOfMemory, NotOneText}
+use Rattle.tp_command_line.specs.declared.error.ValueError.TheVariants.{BadHex, BadAddress, BadPage, OutOfMemory, NotOneText, NotOneOutput}
 
 -- ---- values
 
@@ -21,6 +21,7 @@ code_of_value BadAddress = 2
 code_of_value BadPage = 2
 code_of_value OutOfMemory = 3
 code_of_value NotOneText = 13
+code_of_value NotOneOutput = 13
 
 -- the line that is printed of it, and below it what was expected, where that is asked for
 abbrev pub value_line : Bool → ValueError → List ℕ
@@ -32,10 +33,16 @@ value_line false BadPage = codes "textpeer: Io\n"
 value_line true BadPage = codes "textpeer: Io\n  the address of a page is IP:PORT of this machine, as 127.0.0.1:7117, since nobody else is to have it\n"
 value_line explains OutOfMemory = codes "textpeer: OutOfMemory\n"
 value_line explains NotOneText = codes "error: one of --text <T> and --text-file <F> has to be given\n\nFor more information, try '--help'.\n"
+value_line explains NotOneOutput = codes "error: one of <OUT> and --texts has to be given\n\nFor more information, try '--help'.\n"
 
 abbrev pub refusal_of_hex : HexError → ValueError
 refusal_of_hex hex.BadHex = BadHex
 refusal_of_hex hex.OutOfMemory = OutOfMemory
+
+-- a damaged journal is to be recovered, with neither a journal to make nor `--texts`, or with both
+abbrev pub HasNotOneOutput : List Row → Type 0
+HasNotOneOutput rows = (HasFlag (codes "texts") rows true × HasValue (codes "OUT") rows)
+    ⊎ (HasFlag (codes "texts") rows false × (first_of (codes "OUT") rows ≡ None))
 
 -- an edit is asked for, with no text and no file of one, or with both
 abbrev pub HasNotOneText : List Row → Type 0
@@ -43,13 +50,14 @@ HasNotOneText rows = ((n : ℕ) × HasNumber (codes "at") rows n)
     × (((first_of (codes "text") rows ≡ None) × (first_of (codes "text-file") rows ≡ None)) ⊎ (HasValue (codes "text") rows × HasValue (codes "text-file") rows))
 
 -- Why a value of the arguments isn't read: a hash or the key isn't 64 hexadecimal digits, the address isn't one, or a page's not
--- of this machine, memory ran out, or an edit has not one text.
+-- of this machine, memory ran out, an edit has not one text, or `recover` neither a journal to make nor `--texts`, or both.
 abbrev pub RefusesValue : List Row → ValueError → Type 0
 RefusesValue rows BadHex = Any IsNoHash (all_hashes rows) ⊎ ((text : Text) × (first_of (codes "key") rows ≡ Some text) × IsNoHash text)
 RefusesValue rows BadAddress = (id text : Text) × IsTrue (is_of_address id) × (first_of id rows ≡ Some text) × IsNoAddress text
 RefusesValue rows BadPage = (text : Text) × (first_of (codes "PAGE") rows ≡ Some text) × IsNoPage text
 RefusesValue rows OutOfMemory = Unit {0}
 RefusesValue rows NotOneText = HasNotOneText rows
+RefusesValue rows NotOneOutput = HasNotOneOutput rows
 
 -- ---- words
 
@@ -76,9 +84,9 @@ abbrev pub RefusesReading : Kinds → Option (Text × List Row) → ValueError �
 RefusesReading kinds found OutOfMemory = Unit {0}
 RefusesReading kinds found e = (name : Text) × (rows : List Row) × (kinds ≡ []) × (found ≡ Some (name, rows)) × RefusesValue rows e
 
--- The words are at no fault, but ask for an edit with not one text.
-abbrev pub AskForNotOneText : Kinds → Option (Text × List Row) → Type 0
-AskForNotOneText kinds found = RefusesReading kinds found NotOneText
+-- The words are at no fault, but ask for an edit with not one text, or for `recover` with not one of `OUT` and `--texts`.
+abbrev pub AskForNotOne : Kinds → Option (Text × List Row) → Type 0
+AskForNotOne kinds found = RefusesReading kinds found NotOneText ⊎ RefusesReading kinds found NotOneOutput
 
 -- Why there is no job: help or the version is asked for, the words have that fault, or a value isn't read.
 abbrev pub RefusesLine : Kinds → Option (Text × List Row) → LineError → Type 0

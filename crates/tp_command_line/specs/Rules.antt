@@ -10,6 +10,10 @@ use Rattle.clap.specs.declared.builder.value_parser.ValueParser.TheVariants.{Uns
 abbrev pub required_rule : Text → Rule
 required_rule id = record (new_rule id) { required = true; action = Some Set }
 
+-- one value, by its place, which may be left out
+abbrev pub optional_rule : Text → Rule
+optional_rule id = record (new_rule id) { action = Some Set }
+
 -- `--id VALUE`
 abbrev pub option_rule : Text → Rule
 option_rule id = record (new_rule id) { long = Some id; action = Some Set; value_names = 1 }
@@ -73,6 +77,10 @@ waiting = Unsigned 0 86400
 -- half a minute where `--patience` is left out
 abbrev pub patience_rule : Rule
 patience_rule = record (option_rule (codes "patience")) { parser = Some waiting; defaults = codes "30" ∷ [] }
+
+-- five seconds for a lock where `--wait` is left out
+abbrev pub wait_rule : Rule
+wait_rule = record (option_rule (codes "wait")) { parser = Some waiting; defaults = codes "5" ∷ [] }
 
 -- the address of a page, by its place; this one where it is left out
 abbrev pub page_rule : Rule

@@ -1,5 +1,6 @@
 -- What a parse without a fault leaves of a subcommand's arguments, and which value that is.
-use Rattle.std.specs.Prelude.{◌≡◌, ◌⊎◌, ◌&&◌, ◌||◌, ◌==◌, ℕ, ◌^◌, ◌<◌, Bool, true, false, nat_lt, if◌then◌else◌, List, [], ◌∷◌, ◌++◌, length, Option, Some, None, codes, unwrap_or, IsTrue}
+use Rattle.std.specs.Prelude.{◌≡◌, ◌⊎◌, ◌&&◌, ◌||◌, ◌==◌, ℕ, ◌^◌, ◌<◌, Bool, true, false, nat_lt, if◌then◌else◌, List, [], ◌∷◌, ◌++◌, length, map, Option, Some, None, codes, unwrap_or, IsTrue}
+use Rattle.std.specs.Borrow.{Bor}
 use Rattle.std.specs.List.{list_all, list_any}
 use Rattle.std.specs.Net.Addr.{IsLoopbackV4, IsLoopbackV6, MatchIp}
 use Rattle.std.specs.Net.Grammar.{IsSocketText}
@@ -120,6 +121,10 @@ given_hashes id rows = unwrap_or (all_of id rows) []
 abbrev pub all_hashes : List Row → List Text
 all_hashes rows = given_hashes (codes "HASH") rows ++ (given_hashes (codes "to") rows ++ given_hashes (codes "since") rows)
 
+-- the texts are those that an argument was given
+abbrev pub HasTexts : Text → List Row → List (Bor Text) → Type 0
+HasTexts id rows texts = map (λ t. t.now) texts ≡ unwrap_or (all_of id rows) []
+
 abbrev pub HasHashes : Text → List Row → List Hash → Type 0
 HasHashes id rows hashes = AreHexOf (given_hashes id rows) hashes
 
@@ -178,14 +183,14 @@ is_numeric id = list_any (λ n. bytes_eq n id) (codes "AT" ∷ codes "at" ∷ co
 
 -- the arguments that are flags
 abbrev pub is_flag : Text → Bool
-is_flag id = list_any (λ n. bytes_eq n id) (codes "client" ∷ codes "verbose" ∷ codes "raw" ∷ codes "pretty" ∷ [])
+is_flag id = list_any (λ n. bytes_eq n id) (codes "client" ∷ codes "verbose" ∷ codes "raw" ∷ codes "pretty" ∷ codes "texts" ∷ [])
 
 -- what reads the values of an argument
 abbrev pub parser_named : Text → ValueParser
 parser_named id = if is_numeric id then numbers else if bytes_eq (codes "workers") id then few
-    else if bytes_eq (codes "patience") id then waiting else if bytes_eq (codes "follow") id then pausing
+    else if bytes_eq (codes "patience") id then waiting else if bytes_eq (codes "wait") id then waiting else if bytes_eq (codes "follow") id then pausing
     else if is_flag id then parser.Bool else parser.String
 
 -- the argument has a number as its value
 abbrev pub is_number : Text → Bool
-is_number id = is_numeric id || bytes_eq (codes "workers") id || bytes_eq (codes "patience") id || bytes_eq (codes "follow") id
+is_number id = is_numeric id || bytes_eq (codes "workers") id || bytes_eq (codes "patience") id || bytes_eq (codes "follow") id || bytes_eq (codes "wait") id

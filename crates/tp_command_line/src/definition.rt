@@ -2,8 +2,8 @@
 
 ghost use Rattle.std.specs.Prelude.{◌≡◌, ◌∷◌, IfOk, [], false, codes};
 ghost use Rattle.clap.specs.Words.{App, Shape, app_of, rule_of, with_subcommand};
-ghost use Rattle.tp_command_line.specs.Commands.{IsLeaf, bare_app, cursor_shape, diff_shape, edit_at_shape, edit_shape, files_app, journals_app, load_shape, log_shape, merge_shape, new_shape, serve_shape, session_shape, sync_shape, text_shape, textpeer_app, update_shape, web_shape, whole_text_shape, with_rules};
-ghost use Rattle.tp_command_line.specs.Rules.{file_rule, flag_rule, follow_rule, list_rule, mandatory, message_rule, most_rule, numeric, option_rule, options_rule, page_rule, patience_rule, required_rule, server_rule, sessions_rule, several, time_rule, workers_rule};
+ghost use Rattle.tp_command_line.specs.Commands.{IsLeaf, bare_app, cursor_shape, diff_shape, edit_at_shape, edit_shape, files_app, journals_app, load_shape, log_shape, merge_shape, new_shape, recover_shape, serve_shape, session_shape, sync_shape, text_shape, textpeer_app, update_shape, web_shape, whole_text_shape, with_rules};
+ghost use Rattle.tp_command_line.specs.Rules.{file_rule, flag_rule, follow_rule, list_rule, mandatory, message_rule, most_rule, numeric, option_rule, optional_rule, options_rule, page_rule, patience_rule, required_rule, server_rule, sessions_rule, several, time_rule, workers_rule, wait_rule};
 
 use clap::builder::ValueParser;
 use clap::{Arg, ArgAction, Command, value_parser};
@@ -43,17 +43,7 @@ fn file_commands<'a>(alloc: Global) -> Result<Command<'a>, AllocError>
         ),
     );
     let loaded = with(saved, load_command(alloc));
-    let recovered = with(
-        loaded,
-        pair_command(
-            alloc,
-            "recover",
-            "Makes a journal of all that can be had of a damaged one, and says how many changes came and from which bytes none did",
-            "Example:\n  textpeer recover notes.journal whole.journal",
-            "OUT",
-            "the journal that is made; where anything is there it stays",
-        ),
-    );
+    let recovered = with(loaded, recover_command(alloc));
     let shown = with(
         recovered,
         value_command(
@@ -314,6 +304,21 @@ fn patience<'a>(alloc: Global) -> Arg<'a>
     .default_value("30")
 }
 
+// How many seconds the lock of the journal is waited for.
+fn wait<'a>(alloc: Global) -> Arg<'a>
+    ensures rule { rule_of result ≡ wait_rule }
+    ensures local { result.global ≡ false }
+{
+    option(
+        alloc,
+        "wait",
+        "SECONDS",
+        "how long FILE's lock is waited for where another program has it, in seconds to 86400. Not at all if 0",
+    )
+    .value_parser(ValueParser::unsigned(0, 86400))
+    .default_value("5")
+}
+
 // How many seconds pass between two sessions, where there is more than one.
 fn follow<'a>(alloc: Global) -> Arg<'a>
     ensures rule { rule_of result ≡ follow_rule }
@@ -431,6 +436,7 @@ fn new_command<'a>(alloc: Global) -> Result<Command<'a>, AllocError>
         "Begins a journal, and prints the identifier of its document",
         "Example:\n  textpeer new notes.journal",
     )?
+    .arg(wait(alloc))?
     .arg(key(alloc))
 }
 
@@ -460,6 +466,7 @@ fn edit_command<'a>(alloc: Global) -> Result<Command<'a>, AllocError>
         .arg(text_file(alloc))?
         .arg(time(alloc))?
         .arg(message(alloc))?
+        .arg(wait(alloc))?
         .arg(key(alloc))
 }
 
@@ -482,6 +489,7 @@ fn whole_text_command<'a>(
     )?
     .arg(time(alloc))?
     .arg(message(alloc))?
+    .arg(wait(alloc))?
     .arg(key(alloc))
 }
 
@@ -601,7 +609,50 @@ fn merge_command<'a>(alloc: Global) -> Result<Command<'a>, AllocError>
         "OTHER",
         "the journal that has the changes; it isn't written",
     )?
+    .arg(wait(alloc))?
     .arg(key(alloc))
+}
+
+// The journal that `recover` makes.
+fn made_journal<'a>(alloc: Global) -> Arg<'a>
+    ensures rule { rule_of result ≡ optional_rule (codes "OUT") }
+    ensures local { result.global ≡ false }
+{
+    Arg::new(alloc, "OUT")
+        .help("the journal that is made; where anything is there it stays")
+        .action(ArgAction::Set)
+}
+
+// Other files that `recover` looks through, each after the option's name.
+fn other_file<'a>(alloc: Global) -> Arg<'a>
+    ensures rule { rule_of result ≡ options_rule (codes "with") }
+    ensures local { result.global ≡ false }
+{
+    option(
+        alloc,
+        "with",
+        "OTHER",
+        "another file whose whole changes enter too, once for each: what was cut off, or a copy of the journal",
+    )
+    .action(ArgAction::Append)
+}
+
+fn recover_command<'a>(alloc: Global) -> Result<Command<'a>, AllocError>
+    ensures { IfOk result (IsLeaf recover_shape) }
+{
+    file_command(
+        alloc,
+        "recover",
+        "Makes a journal of all that can be had of a damaged one, and says how many changes came and from which bytes none did",
+        "Example:\n  textpeer recover notes.journal whole.journal\n  textpeer recover notes.journal whole.journal --with copy.journal",
+    )?
+    .arg(made_journal(alloc))?
+    .arg(other_file(alloc))?
+    .arg(flag(
+        alloc,
+        "texts",
+        "makes no journal, and prints what the whole changes inserted, in their order: a last resort",
+    ))
 }
 
 fn load_command<'a>(alloc: Global) -> Result<Command<'a>, AllocError>
@@ -615,7 +666,8 @@ fn load_command<'a>(alloc: Global) -> Result<Command<'a>, AllocError>
         "SAVED",
         "a saved file",
     )?
-    .arg(journal(alloc))
+    .arg(journal(alloc))?
+    .arg(wait(alloc))
 }
 
 fn serve_command<'a>(alloc: Global) -> Result<Command<'a>, AllocError>
@@ -640,6 +692,7 @@ fn serve_command<'a>(alloc: Global) -> Result<Command<'a>, AllocError>
         "verbose",
         "prints a line on the standard error for each session as it ends",
     ))?
+    .arg(wait(alloc))?
     .arg(key(alloc))
 }
 
@@ -660,6 +713,7 @@ fn sync_command<'a>(alloc: Global) -> Result<Command<'a>, AllocError>
         "with --follow: how many sessions are held; then it ends. If left out it goes on until it is ended",
     ))?
     .arg(patience(alloc))?
+    .arg(wait(alloc))?
     .arg(key(alloc))
 }
 
@@ -678,6 +732,7 @@ fn session_command<'a>(alloc: Global) -> Result<Command<'a>, AllocError>
         "client",
         "holds the client's side; the server's if left out",
     ))?
+    .arg(wait(alloc))?
     .arg(key(alloc))
 }
 
@@ -725,5 +780,6 @@ fn web_command<'a>(alloc: Global) -> Result<Command<'a>, AllocError>
         "serves the journal beside the page too, at this address, as IP:PORT or HOST:PORT, and prints the port",
     ))?
     .arg(server(alloc))?
+    .arg(wait(alloc))?
     .arg(key(alloc))
 }

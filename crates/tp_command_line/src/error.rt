@@ -24,11 +24,13 @@ pub enum ValueError {
     OutOfMemory,
     /// An edit has no text and no file of one, or both: a fault of the words.
     NotOneText,
+    /// `recover` has neither a journal to make nor `--texts`, or both: a fault of the words.
+    NotOneOutput,
 }
 
 impl ValueError {
     /// The number of the refusal among those of the program: 1 `BadHex`, 2 `BadAddress` and `BadPage`, as of what fails outside,
-    /// 3 `OutOfMemory`, 13 `NotOneText`.
+    /// 3 `OutOfMemory`, 13 `NotOneText` and `NotOneOutput`.
     pub fn code(&self) -> u8
         ensures { result ≡ code_of_value self.now }
     {
@@ -36,7 +38,7 @@ impl ValueError {
             ValueError::BadHex => 1,
             ValueError::BadAddress | ValueError::BadPage => 2,
             ValueError::OutOfMemory => 3,
-            ValueError::NotOneText => 13,
+            ValueError::NotOneText | ValueError::NotOneOutput => 13,
         }
     }
 
@@ -60,6 +62,8 @@ impl ValueError {
             (ValueError::OutOfMemory, _) => "textpeer: OutOfMemory\n",
             (ValueError::NotOneText, _) =>
                 "error: one of --text <T> and --text-file <F> has to be given\n\nFor more information, try '--help'.\n",
+            (ValueError::NotOneOutput, _) =>
+                "error: one of <OUT> and --texts has to be given\n\nFor more information, try '--help'.\n",
         }
     }
 }

@@ -11,7 +11,7 @@ use crate::address::Address;
 use crate::error::ValueError;
 use crate::values::{
     address_if_given, address_of, flag_of, hashes_of, inserted_of, key_of, number_in, number_of,
-    page_of, text_of,
+    output_of, page_of, text_of, texts_given,
 };
 use clap::ArgMatches;
 use std::alloc::Global;
@@ -162,12 +162,14 @@ pub enum FileJob<'a> {
         /// The path of the journal.
         file: &'a str,
     },
-    /// Makes a journal of all that can be had of a damaged one.
+    /// Makes a journal of all that can be had of a damaged one, or prints what its whole records inserted.
     Recover {
         /// The path of the damaged journal.
         file: &'a str,
-        /// The path of the journal that is made.
-        out: &'a str,
+        /// The path of the journal that is made; where there is none texts are printed.
+        out: Option<&'a str>,
+        /// The paths of other files in which whole records are looked for.
+        others: Vec<&'a str>,
     },
     /// Prints the text that a log of changes makes.
     Show {
@@ -275,6 +277,9 @@ pub enum Beside<'a> {
     Made(&'a str),
     /// It is a journal that is made of the first one, a saved file.
     Loaded(&'a str),
+    /// It is a journal that is made of what can be had of the first one, if one is made; and the first other file that
+    /// is read for that, if any is.
+    Rescued(Option<&'a str>, Option<&'a str>),
     /// It is the other side of a session over the standard input and output.
     Streams,
     /// It is the address that is listened on.
@@ -320,7 +325,12 @@ fn subject_of_files<'a>(job: &FileJob<'a>) -> Subject<'a>
         FileJob::Merge { file, other, .. } => (file, Beside::Read(other)),
         FileJob::Save { file, out } => (file, Beside::Made(out)),
         FileJob::Load { saved, file } => (saved, Beside::Loaded(file)),
-        FileJob::Recover { file, out } => (file, Beside::Made(out)),
+        FileJob::Recover { file, out, others } => {
+            return Subject {
+                file,
+                beside: Beside::Rescued(*out, others.first().copied()),
+            };
+        }
         FileJob::Edit {
             file,
             text: Inserted::InFile(source),
@@ -388,6 +398,19 @@ fn import_of<'a>(found: &ArgMatches<'a>) -> Result<Job<'a>, ValueError>
         time: number_of(found, "import", "time"),
         message: text_of(found, "import", "message"),
         key: key_of(found)?,
+    }))
+}
+
+// What `recover` asks for.
+fn recover_of<'a>(alloc: Global, found: &ArgMatches<'a>) -> Result<Job<'a>, ValueError>
+    requires { IsUse (codes "recover") (rows_of (found_of found.now)) }
+    ensures ok { IfOk result (IsJobOf (codes "recover") (rows_of (found_of found.now))) }
+    ensures err { IfErr result (RefusesValue (rows_of (found_of found.now))) }
+{
+    Ok(Job::Files(FileJob::Recover {
+        file: text_of(found, "recover", "FILE"),
+        out: output_of(found)?,
+        others: texts_given(alloc, found, "with")?,
     }))
 }
 
@@ -540,10 +563,7 @@ pub(crate) fn job_of<'a>(
             saved: text_of(found, name, "SAVED"),
             file: text_of(found, name, "FILE"),
         })),
-        "recover" => Ok(Job::Files(FileJob::Recover {
-            file: text_of(found, name, "FILE"),
-            out: text_of(found, name, "OUT"),
-        })),
+        "recover" => recover_of(alloc, found),
         "show" => Ok(Job::Files(FileJob::Show {
             log: text_of(found, name, "LOG"),
         })),

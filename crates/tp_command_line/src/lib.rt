@@ -14,4 +14,4 @@ pub use address::Address;
 pub use asking::{Asked, words_asked};
 pub use error::{LineError, ValueError};
 pub use job::{Beside, FileJob, Hosting, Inserted, Job, Subject};
-pub use parsing::line;
+pub use parsing::{Wanted, line};

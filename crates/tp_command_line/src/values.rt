@@ -1,19 +1,19 @@
 //! The values of what the parser found.
 
-ghost use Rattle.std.specs.Prelude.{◌≡◌, IfErr, IfOk, Some, option_map, codes, IsTrue};
+ghost use Rattle.std.specs.Prelude.{◌≡◌, IfErr, IfOk, Some, map, option_map, codes, IsTrue};
 ghost use Rattle.clap.specs.declared.builder.value_parser.ValueParser.TheVariants as parser;
 ghost use Rattle.clap.specs.Words.{first_of, found_of, rows_of};
-ghost use Rattle.tp_command_line.specs.Commands.{HasInserted};
+ghost use Rattle.tp_command_line.specs.Commands.{HasInserted, HasOutput};
 ghost use Rattle.tp_command_line.specs.LineError.{RefusesValue};
 ghost use Rattle.tp_command_line.specs.Uses.{IsUse, always_has};
-ghost use Rattle.tp_command_line.specs.Values.{HasAddress, HasFlag, HasHashes, HasKey, HasNumber, HasPage, MayHaveAddress, MayHaveNumber, is_number, is_of_address, is_of_hashes, parser_named};
+ghost use Rattle.tp_command_line.specs.Values.{HasAddress, HasFlag, HasHashes, HasKey, HasNumber, HasPage, HasTexts, MayHaveAddress, MayHaveNumber, is_number, is_of_address, is_of_hashes, parser_named};
 
 use crate::address::Address;
 use crate::error::ValueError;
 use crate::job::Inserted;
 use crate::texts::{address_in, digits_in, hashes_in, page_in};
 use clap::ArgMatches;
-use std::alloc::Global;
+use std::alloc::{AllocError, Global};
 use std::net::SocketAddr;
 use tp_opid::Hash;
 
@@ -78,6 +78,20 @@ pub(crate) fn inserted_of<'a>(found: &ArgMatches<'a>) -> Result<Inserted<'a>, Va
     }
 }
 
+/// The path of the journal that `recover` makes, or none where it prints texts; of the two one has to be given.
+pub(crate) fn output_of<'a>(found: &ArgMatches<'a>) -> Result<Option<&'a str>, ValueError>
+    requires { IsUse (codes "recover") (rows_of (found_of found.now)) }
+    ensures ok { IfOk result (HasOutput (rows_of (found_of found.now))) }
+    ensures err { IfErr result (RefusesValue (rows_of (found_of found.now))) }
+{
+    match (flag_of(found, "recover", "texts"), given_text(found, "OUT")) {
+        (false, Some(out)) => Ok(Some(out)),
+        (true, None) => Ok(None),
+        (true, Some(_)) => Err(ValueError::NotOneOutput),
+        (false, None) => Err(ValueError::NotOneOutput),
+    }
+}
+
 /// The key, where it is given.
 pub(crate) fn key_of(found: &ArgMatches<'_>) -> Result<Option<[u8; 32]>, ValueError>
     ensures ok { IfOk result (HasKey (rows_of (found_of found.now))) }
@@ -127,6 +141,32 @@ pub(crate) fn page_of(found: &ArgMatches<'_>) -> Result<SocketAddr, ValueError>
     ensures err { IfErr result (RefusesValue (rows_of (found_of found.now))) }
 {
     page_in(text_of(found, "web", "PAGE"))
+}
+
+// The texts, in their order.
+fn copies_of<'a>(alloc: Global, texts: &[&'a str]) -> Result<Vec<&'a str>, AllocError>
+    ensures { IfOk result (λ copies. map (λ t. t.now) copies.items ≡ map (λ t. t.now) texts.now) }
+{
+    let mut copies = Vec::with_capacity(alloc, texts.len())?;
+    for text in texts {
+        copies.push(*text)?;
+    }
+    Ok(copies)
+}
+
+/// The texts that an argument is given.
+pub(crate) fn texts_given<'a>(
+    alloc: Global,
+    found: &ArgMatches<'a>,
+    id: &str,
+) -> Result<Vec<&'a str>, ValueError>
+    ensures ok { IfOk result (λ texts. HasTexts id.now (rows_of (found_of found.now)) texts.items) }
+    ensures err { IfErr result (RefusesValue (rows_of (found_of found.now))) }
+{
+    match found.get_strs(id) {
+        Some(texts) => Ok(copies_of(alloc, texts)?),
+        None => Ok(Vec::new(alloc)),
+    }
 }
 
 /// The hashes that an argument is given.

@@ -2,11 +2,12 @@
 use Rattle.std.specs.Prelude.{ℕ, List}
 
 -- Of the file at a path: these bytes were read of it; its lock was taken, and then these were read of it; it was left with
--- these, on the disk.
+-- these, on the disk; its lock was tried so often, one time after another, and was another's each time.
 pub data DiskView : Type 0 where
   WasRead : List ℕ → List ℕ → DiskView
   WasLocked : List ℕ → List ℕ → DiskView
   WasLeft : List ℕ → List ℕ → DiskView
+  WasRefused : List ℕ → ℕ → DiskView
 
 -- Of bytes that were read of the file P holds.
 abbrev pub OfFile : (DiskView → Type 0) → List ℕ → (List ℕ → Type 0) → Type 0

@@ -15,3 +15,7 @@ drawn_actor generator = fresh_actor_of generator
 
 unfoldable pub after_draw : ChaCha → ChaCha
 after_draw generator = after_word (after_word (after_word (after_word generator)))
+
+-- the actor is drawn from a generator that has the key, or one of its own where none is given
+abbrev pub IsDrawn : Option (List ℕ) → Actor → Type 0
+IsDrawn key actor = (g : ChaCha) × IsKeyed key g × (actor ≡ drawn_actor g)

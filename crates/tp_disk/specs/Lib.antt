@@ -1,3 +1,4 @@
 pub mod DiskView
 pub mod Keys
 pub mod Opening
+pub mod Waiting

@@ -1,22 +1,26 @@
 //! The files that commands read and write.
 
-ghost use Rattle.std.specs.Prelude.{◌≡◌, [], IfOk, OnOk, Ok};
+ghost use Rattle.std.specs.Prelude.{◌≡◌, [], IfErr, IfOk, OnOk, Ok};
 ghost use Rattle.tp_journal.specs.Calls.{IsAllSynced};
 ghost use Rattle.tp_recovery.specs.Recovery.{HasTail, Recovers};
-ghost use Rattle.tp_disk.specs.DiskView.{WasLeft, WasLocked, WasRead};
+ghost use Rattle.tp_disk.specs.DiskView.{WasLeft, WasLocked, WasRead, WasRefused};
+ghost use Rattle.tp_disk.specs.Waiting.{tries_in};
+ghost use Rattle.tp_commands.specs.declared.error.CommandError.TheVariants.{Busy};
 ghost use Rattle.tp_disk.specs.Opening.{CutsJournal, KeepsTail};
 
 use crate::cutting::keep_cut;
 use crate::folders::{Folders, is_of_system};
 use crate::locks::{FileId, lock_in};
+use crate::stamps::Stamp;
+use crate::waiting::{locked_journal, locked_recovery};
 use std::fs::{OpenFile, OpenOptions};
 use std::io::{ErrorKind, Read, Seek, Write};
 use std::os::unix::fs::MetadataExt;
 use std::rt::Files;
-use std::time::{Clock, Duration};
-use std::{fs, io, thread};
+use std::time::Clock;
+use std::{fs, io};
 use tp_commands::{CommandError, Lock, Recovery};
-use tp_journal::{DurableJournal, Journal, Lockable, OpenError, Recovered, Recovering};
+use tp_journal::{DurableJournal, Journal, Lockable, Recovered, Recovering};
 use tp_peer::PeerSequence;
 
 /// A journal that was opened to write.
@@ -55,9 +59,9 @@ pub enum Cause {
 
 /// Files at paths, as commands meet them.
 ///
-/// Contracts see what a call did by what was seen of the file at a path ([`saw`](Folders)), each with bytes: it was read, it
-/// was read once its lock was taken, it was left so, on the disk. What the system does with a file between two calls is
-/// outside of it.
+/// Contracts see what a call did by what was seen of the file at a path ([`saw`](Folders)): the bytes with which it was read,
+/// was read once its lock was taken, or was left, on the disk; or how often its lock was another's. What the system does with
+/// a file between two calls is outside of it.
 pub trait Disk: Folders {
     /// An open file.
     type File: Read + Write + Seek + OpenFile + Drop;
@@ -87,17 +91,26 @@ pub trait Disk: Folders {
     /// Who has a file's lock. It isn't taken.
     fn lock(&self, path: &str) -> Lock;
 
-    /// The journal in a file, which has the file's lock until it ends. An absent file is made. Where another has the lock,
-    /// and doesn't end within five seconds, it is refused as `Busy`. What [`check_journal`](Disk::check_journal) refuses
-    /// is refused so.
-    fn make_journal(&self, path: &str) -> Result<DurableJournal<Self::File>, CommandError>
-        ensures { IfOk result (λ j. Self.saw self.now (WasLocked path.now j.file.content)) };
+    /// The journal in a file, which has the file's lock until it ends. An absent file is made. While another has the lock it
+    /// is tried again, four times a second for `wait` seconds, and then refused as `Busy`; where they are 0 at once. What
+    /// [`check_journal`](Disk::check_journal) refuses is refused so.
+    fn make_journal(
+        &self,
+        path: &str,
+        wait: u64,
+    ) -> Result<DurableJournal<Self::File>, CommandError>
+        ensures taken { IfOk result
+            (λ j. Self.saw self.now (WasLocked path.now j.file.content)) }
+        ensures busy { IfErr result
+            (λ e. e ≡ Busy → Self.saw self.now (WasRefused path.now (tries_in wait))) };
 
     /// The journal in a file, as [`make_journal`](Disk::make_journal) gives it, with what its content recovers to; it
     /// holds no copy of the content. An absent file is refused, and a journal that doesn't recover. What opening it
     /// cuts off is put into a file of its own first where a whole record is in it, at the path with `.cut-` and the
     /// offset of the first byte; one that is there already with other bytes is refused as `JournalNotEmpty`.
-    fn journal(&self, path: &str) -> Result<Opened<Self::File>, CommandError>
+    fn journal(&self, path: &str, wait: u64) -> Result<Opened<Self::File>, CommandError>
+        ensures busy { IfErr result
+            (λ e. e ≡ Busy → Self.saw self.now (WasRefused path.now (tries_in wait))) }
         ensures taken { IfOk result
             (λ o. Self.saw self.now (WasLocked path.now o.journal.file.content)) }
         ensures recovers { IfOk result (λ o. Recovers o.journal.file.content o.recovered.document.id
@@ -105,6 +118,22 @@ pub trait Disk: Folders {
             × (o.recovered.document.waiting ≡ [])) }
         ensures cuts { IfOk result
             (λ o. CutsJournal (Self.saw self.now) path.now o.journal.file.content o.cut) };
+
+    /// By what the file at the path is known, as far as the system says now.
+    fn stamp(&self, path: &str) -> Option<Stamp>;
+
+    /// The journal in a file, as [`make_journal`](Disk::make_journal) gives it, where the file is as the stamp says: one that was
+    /// changed is refused as `Io`, and so is an absent one.
+    fn resume(
+        &self,
+        path: &str,
+        stamp: &Stamp,
+        wait: u64,
+    ) -> Result<DurableJournal<Self::File>, CommandError>
+        ensures taken { IfOk result
+            (λ j. Self.saw self.now (WasLocked path.now j.file.content)) }
+        ensures busy { IfErr result
+            (λ e. e ≡ Busy → Self.saw self.now (WasRefused path.now (tries_in wait))) };
 
     /// The journal that was taken from the path was left with what is in it, and all of that is on the disk.
     fn leave(
@@ -148,53 +177,6 @@ fn opened_journal<R: Files + AllocGlobal>(
             Err(CommandError::from(error))
         }
     }
-}
-
-// How often a lock that another has is tried again.
-const TRIES: u64 = 20;
-
-// Waits for the next try: a quarter of a second.
-fn pause<C: Clock>(clock: &C) {
-    thread::sleep(clock, Duration::from_millis(250));
-}
-
-// The journal in the file, once its lock is free: it is tried again for five seconds.
-fn locked_journal<R: Files + Clock + AllocGlobal>(
-    rt: &R,
-    path: &str,
-) -> Result<DurableJournal<R::File>, OpenError>
-where
-    R::File: Lockable,
-{
-    for _ in 0..TRIES {
-        match DurableJournal::at(rt, rt.alloc(), path, true) {
-            Err(OpenError::Busy) => pause(rt),
-            opened => return opened,
-        }
-    }
-    DurableJournal::at(rt, rt.alloc(), path, true)
-}
-
-// The journal in the file, with what it recovers to, once its lock is free: it is tried again for five seconds.
-fn locked_recovery<R: Files + Clock + AllocGlobal>(
-    rt: &R,
-    path: &str,
-) -> Result<(DurableJournal<R::File>, Recovery), OpenError>
-where
-    R::File: Lockable,
-    ensures ok { IfOk result (λ opened. IfOk opened.1 (λ r.
-        Recovers opened.0.file.content r.document.id r.document.applied r.keep
-        × (r.document.waiting ≡ []))) }
-    ensures tail { IfOk result (λ opened. IfOk opened.1
-        (λ r. HasTail opened.0.file.content r.keep r.tail.items)) }
-{
-    for _ in 0..TRIES {
-        match DurableJournal::recovering(rt, rt.alloc(), path, false) {
-            Err(OpenError::Busy) => pause(rt),
-            opened => return opened,
-        }
-    }
-    DurableJournal::recovering(rt, rt.alloc(), path, false)
 }
 
 // Why the system has no file at the path.
@@ -286,15 +268,37 @@ where
         }
     }
 
-    fn make_journal(&self, path: &str) -> Result<DurableJournal<R::File>, CommandError> {
+    fn make_journal(&self, path: &str, wait: u64) -> Result<DurableJournal<R::File>, CommandError> {
         self.check_journal(path)?;
-        Ok(locked_journal(self, path)?)
+        Ok(locked_journal(self, path, true, wait)?)
     }
 
-    fn journal(&self, path: &str) -> Result<Opened<R::File>, CommandError> {
+    fn journal(&self, path: &str, wait: u64) -> Result<Opened<R::File>, CommandError> {
         self.check_journal(path)?;
-        let (journal, recovery) = locked_recovery(self, path)?;
+        let (journal, recovery) = locked_recovery(self, path, wait)?;
         opened_journal(self, path, journal, recovery)
+    }
+
+    fn stamp(&self, path: &str) -> Option<Stamp> {
+        match fs::metadata(self, path) {
+            Ok(found) => Some(Stamp::of(&found)),
+            Err(_) => None,
+        }
+    }
+
+    fn resume(
+        &self,
+        path: &str,
+        stamp: &Stamp,
+        wait: u64,
+    ) -> Result<DurableJournal<R::File>, CommandError> {
+        let journal = locked_journal(self, path, false, wait)?;
+        if self.stamp(path) == Some(*stamp) {
+            Ok(journal)
+        } else {
+            drop(journal);
+            Err(CommandError::Io)
+        }
     }
 
     fn leave(

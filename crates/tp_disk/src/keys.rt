@@ -1,8 +1,7 @@
 //! The generator of random numbers, and what is drawn from it.
 
 ghost use Rattle.std.specs.Prelude.{◌≡◌, IfOk, IfSome};
-ghost use Rattle.rand_chacha.specs.ChaCha.{ChaCha};
-ghost use Rattle.tp_disk.specs.Keys.{IsKeyed, after_draw, drawn_actor};
+ghost use Rattle.tp_disk.specs.Keys.{IsDrawn, IsKeyed, after_draw, drawn_actor};
 
 use crate::files::Disk;
 use rand_chacha::ChaCha20Rng;
@@ -48,7 +47,7 @@ pub fn draw(generator: &mut ChaCha20Rng) -> Actor
 
 /// An actor that is drawn from the generator with the key, or with one that nobody can guess where none is given.
 pub fn draw_actor<D: Disk>(rt: &D, key: Option<[u8; 32]>) -> Result<Actor, CommandError>
-    ensures { IfOk result (λ actor. (g : ChaCha) × IsKeyed key g × (actor ≡ drawn_actor g)) }
+    ensures { IfOk result (IsDrawn key) }
 {
     Ok(draw(&mut generator(rt, key)?))
 }

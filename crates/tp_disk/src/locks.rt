@@ -3,7 +3,7 @@
 use tp_commands::Lock;
 
 /// By what the system knows a file.
-#[derive(Clone, Copy)]
+#[derive(Clone, Copy, PartialEq, Eq)]
 pub struct FileId {
     /// The number of its device, as `stat` gives it.
     pub device: u64,

@@ -1,5 +1,5 @@
 -- What is printed of sessions one after another, and said of the journal meanwhile.
-use Rattle.std.proofs.Common.{◌≡◌, ◌+◌, ◌<◌, ◌∙◌, ap, arith, refl, subst, suc, sym, zero, ℕ, List, [], ◌∷◌, ◌++◌, length, Option, None, Some, Result, Ok, Err, append-nil, append_assoc, length-append}
+use Rattle.std.proofs.Common.{◌≡◌, ◌+◌, ◌<◌, ◌∙◌, ap, arith, refl, subst, suc, sym, zero, ℕ, List, [], ◌∷◌, ◌++◌, length, Option, None, Some, Result, Ok, Err, inl, inr, append-nil, append_assoc, length-append}
 use Rattle.std.specs.Prelude.{OnErr}
 use Rattle.std.specs.Io.KnownBytes.{Appends}
 use Rattle.std.specs.List.{All, flat_map}
@@ -7,11 +7,20 @@ use Rattle.std.proofs.KnownBytes.{Appends-nil, Appends-trans}
 use Rattle.std.proofs.lemmas.List.Concat.{flat_map-append}
 use Rattle.std.proofs.lemmas.List.Elements.{All-append}
 use Rattle.tp_textpeer.specs.Output.{AppendsPart}
-use Rattle.tp_disk.specs.DiskView.{DiskView}
+use Rattle.tp_opid.specs.declared.actor.Actor.{Actor}
+use Rattle.tp_journal.specs.Journal.{Device}
+use Rattle.tp_peer.specs.Appending.{journal_state}
+use Rattle.tp_peer.specs.Opening.{Reopens}
+use Rattle.tp_peer.specs.PeerState.{PeerState}
+use Rattle.tp_list.proofs.TraceLaws.{trace_push}
+use Rattle.tp_net.specs.Sessions.{AttemptsSessionAlone}
+use Rattle.tp_session.specs.declared.session.Role.TheVariants.{Client}
+use Rattle.tp_disk.specs.Keys.{IsDrawn}
+use Rattle.tp_disk.specs.DiskView.{DiskView, WasRead}
 use Rattle.tp_disk.specs.Opening.{MayCutFile}
 use Rattle.tp_online.specs.Network.{met_line}
 use Rattle.tp_report.specs.Telling.{GrowsBy, GrowsPart, Reports}
-use Rattle.tp_online.specs.Sessions.{ReportsEach, IsFollowed, MayMeet}
+use Rattle.tp_online.specs.Sessions.{HasMet, IsIdle, ReportsEach, IsFollowed, MayMeet}
 
 one_each : (P : ℕ → Type 0) (n : ℕ) → P n → All P (n ∷ [])
 one_each P n p zero d below = p
@@ -33,6 +42,41 @@ module _ (saw : DiskView → Type 0) (file : List ℕ) where
   reports_more a b c first then = (first.0 ++ then.0, reports_join first.0 then.0 a b c first.1 then.1)
 
   module _ (key : Option (List ℕ)) where
+    -- the peer that was just opened on what was read
+    pub idle_at_first : (bytes content : List ℕ) (device : Device) (actor : Actor) (p : PeerState) → saw (WasRead file bytes) → content ≡ bytes
+        → IsDrawn key actor → Reopens (journal_state content device) actor p → IsIdle saw file key p
+    idle_at_first bytes content device actor p was same drawn reopens = record {
+      start = p;
+      opens = (
+        bytes,
+        was,
+        record {
+          generator = drawn.0;
+          keyed = drawn.1;
+          opens = record { opened = journal_state content device; content = same; reopens = subst (λ a. Reopens (journal_state content device) a p) drawn.2 reopens };
+        },
+      );
+      times = [];
+      sessions = refl;
+    }
+
+    -- nothing entered by one session more
+    pub idle_still : (p p' : PeerState) → IsIdle saw file key p → AttemptsSessionAlone Client p (Ok 0) p' → IsIdle saw file key p'
+    idle_still p p' idle meets = record {
+      start = idle.start;
+      opens = idle.opens;
+      times = idle.times ++ tt ∷ [];
+      sessions = trace_push (λ q _ q'. AttemptsSessionAlone Client q (Ok 0) q') idle.start idle.times p tt p' idle.sessions meets;
+    }
+
+    -- a session of such a peer
+    pub met_idle : (p p' : PeerState) (n : ℕ) → IsIdle saw file key p → AttemptsSessionAlone Client p (Ok n) p' → MayMeet saw file key (Some n)
+    met_idle p p' n idle meets = (p', inr (record { peer = p; idle = idle; meets = meets }))
+
+    -- and of one that was opened for it
+    pub met_opened : (p' : PeerState) (n : ℕ) → HasMet saw file key Client n p' → MayMeet saw file key (Some n)
+    met_opened p' n met = (p', inl met)
+
     abbrev pub Stops : Option (List ℕ) → Option (List ℕ) → Type 0
     Stops a b = GrowsPart (λ printed. (n : ℕ) × IsFollowed saw file key n printed) a b
 

@@ -1,11 +1,12 @@
 -- What sessions came to, on the seats of a served peer and on a peer alone.
-use Rattle.std.specs.Prelude.{◌≡◌, ℕ, List, [], ◌∷◌, length, Ok, Option, Some, None, false}
+use Rattle.std.specs.Prelude.{◌≡◌, ◌⊎◌, ℕ, List, [], ◌∷◌, length, Ok, Option, Some, None, false}
 use Rattle.std.specs.List.{All, flat_map}
 use Rattle.tp_peer.specs.PeerState.{PeerState}
 use Rattle.tp_session.specs.declared.session.Role.{Role}
 use Rattle.tp_session.specs.declared.session.Role.TheVariants.{Client}
-use Rattle.tp_disk.specs.DiskView.{DiskView, OfLocked}
+use Rattle.tp_disk.specs.DiskView.{DiskView, OfFile, OfLocked}
 use Rattle.tp_disk.specs.Opening.{MayCutFile, OpensUnder}
+use Rattle.tp_list.specs.Traces.{Trace}
 use Rattle.tp_report.specs.Telling.{Reports}
 use Rattle.tp_online.specs.Network.{met_line}
 use Rattle.tp_net.specs.Sessions.{AllSit, AttemptsSessionAlone}
@@ -44,16 +45,34 @@ pub record HasMet (saw : DiskView → Type 0) (file : List ℕ) (key : Option (L
   pub opens : OfLocked saw file (λ bytes. OpensUnder key bytes peer)
   pub meets : AttemptsSessionAlone role peer (Ok n) p'
 
--- One session was held as the client, and n changes entered by it; or it may be held later.
+-- The peer was opened on bytes that were read of the file, under the actor that is drawn under the key, and some sessions as
+-- the client, in which nothing entered, led it on.
+pub record IsIdle (saw : DiskView → Type 0) (file : List ℕ) (key : Option (List ℕ)) (p : PeerState) : Type 0 where
+  pub start : PeerState
+  pub opens : OfFile saw file (λ bytes. OpensUnder key bytes start)
+  pub times : List (Unit {0})
+  pub sessions : Trace (λ q _ q'. AttemptsSessionAlone Client q (Ok 0) q') start times p
+
+-- One session as the client led such a peer to p', and n changes entered by it.
+pub record HasMetIdle (saw : DiskView → Type 0) (file : List ℕ) (key : Option (List ℕ)) (n : ℕ) (p' : PeerState) : Type 0 where
+  pub peer : PeerState
+  pub idle : IsIdle saw file key peer
+  pub meets : AttemptsSessionAlone Client peer (Ok n) p'
+
+-- One session was held as the client, of the peer that was opened for it or of one that was read before, and n changes entered.
+abbrev pub HasFollowed : (DiskView → Type 0) → List ℕ → Option (List ℕ) → ℕ → Type 0
+HasFollowed saw file key n = (p' : PeerState) × (HasMet saw file key Client n p' ⊎ HasMetIdle saw file key n p')
+
+-- That was so, or a session may be held later.
 abbrev pub MayMeet : (DiskView → Type 0) → List ℕ → Option (List ℕ) → Option ℕ → Type 0
 MayMeet saw file key None = Unit {0}
-MayMeet saw file key (Some n) = (p' : PeerState) × HasMet saw file key Client n p'
+MayMeet saw file key (Some n) = HasFollowed saw file key n
 
 -- That many sessions were held as the client, one after another, and this is printed of them.
 pub record IsFollowed (saw : DiskView → Type 0) (file : List ℕ) (key : Option (List ℕ)) (held : ℕ) (printed : List ℕ) : Type 0 where
   pub applied : List ℕ
   pub count : length applied ≡ held
-  pub met : All (λ n. (p' : PeerState) × HasMet saw file key Client n p') applied
+  pub met : All (HasFollowed saw file key) applied
   pub spelled : printed ≡ flat_map met_line applied
 
 -- What the error stream holds of what was cut off, of each of some times that the journal in the file was opened, one after

@@ -5,6 +5,7 @@
 mod accepting;
 mod following;
 mod hosting;
+mod idling;
 mod listening;
 mod paging;
 mod seating;

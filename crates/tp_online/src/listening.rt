@@ -28,11 +28,13 @@ pub(crate) struct Listening<L: Drop, F: Write + OpenFile + Drop> {
     pub peer: Peer<DurableJournal<F>>,
 }
 
-/// The peer on the journal in the file, and from which offset on what was cut off it is kept.
+/// The peer on the journal in the file, whose lock is waited for that many seconds, and from which offset on what was cut off it is
+/// kept.
 pub(crate) fn open_peer<R: Disk + AllocGlobal>(
     rt: &R,
     file: &str,
     actor: Actor,
+    wait: u64,
     cut: &mut Option<u64>,
 ) -> Result<Peer<DurableJournal<R::File>>, CommandError>
     requires { cut.old ≡ None }
@@ -46,7 +48,7 @@ pub(crate) fn open_peer<R: Disk + AllocGlobal>(
         journal,
         recovered,
         cut: kept,
-    } = rt.journal(file)?;
+    } = rt.journal(file, wait)?;
     *cut = kept;
     reopen(rt.alloc(), (journal, Ok(recovered)), actor)
 }
@@ -67,6 +69,7 @@ pub(crate) fn listen<R: Disk + Net + AllocGlobal>(
     file: &str,
     addr: Address,
     actor: Actor,
+    wait: u64,
     cut: &mut Option<u64>,
 ) -> Result<Listening<R::Listener, R::File>, JobError>
     requires { cut.old ≡ None }
@@ -76,7 +79,7 @@ pub(crate) fn listen<R: Disk + Net + AllocGlobal>(
     ensures opens { IfOk result (λ l. OfLocked (R.saw rt.now) file.now
         (λ bytes. OpensJournal bytes actor l.peer)) }
 {
-    let peer = open_peer(rt, file, actor, cut)?;
+    let peer = open_peer(rt, file, actor, wait, cut)?;
     match bind(rt, addr) {
         Ok((listener, port)) => Ok(Listening {
             listener,

@@ -285,6 +285,7 @@ pub fn web_file<
     file: &str,
     hosting: Hosting<'_>,
     key: Option<[u8; 32]>,
+    wait: u64,
     out: &mut W,
     err: &mut E,
     cut: &mut Option<u64>,
@@ -309,7 +310,7 @@ where
     let actor = draw_actor(rt, key)?;
     let windows = key_or_random(rt, key)?;
     let secret = draw_secret(rt)?;
-    match listen(rt, file, Address::Socket(hosting.page), actor, cut) {
+    match listen(rt, file, Address::Socket(hosting.page), actor, wait, cut) {
         Ok(listening) => {
             report(rt.alloc(), file, *cut, None, err);
             *cut = None;

@@ -47,6 +47,8 @@ pub struct Serving {
     pub patience: Option<Duration>,
     /// Whether a line is printed of each session as it ends.
     pub is_verbose: bool,
+    /// For how many seconds the lock of the journal is waited for.
+    pub wait: u64,
 }
 
 /// A peer, once it held a session.
@@ -271,7 +273,7 @@ where
         ⊎ GrowsPart (IsServeOutput how.now.sessions) (W.contents out.old) (W.contents out.new)) }
 {
     let actor = draw_actor(rt, key)?;
-    match listen(rt, file, addr, actor, cut) {
+    match listen(rt, file, addr, actor, how.wait, cut) {
         Ok(listening) => {
             report(rt.alloc(), file, *cut, None, err);
             *cut = None;
@@ -318,6 +320,7 @@ pub(crate) fn applied_by<R: Disk + Net + AllocGlobal>(
     addr: Address,
     patience: Option<Duration>,
     key: Option<[u8; 32]>,
+    wait: u64,
     cut: &mut Option<u64>,
 ) -> Result<Met<R::File>, JobError>
     requires { cut.old ≡ None }
@@ -327,7 +330,7 @@ pub(crate) fn applied_by<R: Disk + Net + AllocGlobal>(
         (λ met. HasMet (R.saw rt.now) file.now key Client met.applied met.peer) }
 {
     let actor = draw_actor(rt, key)?;
-    let mut peer = open_peer(rt, file, actor, cut)?;
+    let mut peer = open_peer(rt, file, actor, wait, cut)?;
     match meet_there(rt, addr, patience, &mut peer) {
         Ok(applied) => Ok(Met { peer, applied }),
         Err(error) => {
@@ -345,6 +348,7 @@ pub fn sync_file<R: Disk + Net + AllocGlobal, W: Write>(
     addr: Address,
     patience: Option<Duration>,
     key: Option<[u8; 32]>,
+    wait: u64,
     out: &mut W,
     cut: &mut Option<u64>,
 ) -> Result<Met<R::File>, JobError>
@@ -358,7 +362,7 @@ pub fn sync_file<R: Disk + Net + AllocGlobal, W: Write>(
     ensures err { IfErr result
         (λ e. RefusesPrinting IsSynced (W.contents out.old) e (W.contents out.new)) }
 {
-    let met = applied_by(rt, file, addr, patience, key, cut)?;
+    let met = applied_by(rt, file, addr, patience, key, wait, cut)?;
     match tell_applied(rt.alloc(), met.applied, out) {
         Ok(()) => Ok(met),
         Err(error) => {

@@ -46,6 +46,7 @@ pub fn session_file<R: Disk + AllocGlobal, I: Read, O: Write>(
     file: &str,
     role: Role,
     key: Option<[u8; 32]>,
+    wait: u64,
     input: &mut I,
     out: &mut O,
     cut: &mut Option<u64>,
@@ -60,7 +61,7 @@ pub fn session_file<R: Disk + AllocGlobal, I: Read, O: Write>(
         ⊎ ((e ≡ io_failure) ⊎ GrowsBy AreFrames (O.contents out.old) (O.contents out.new))) }
 {
     let actor = draw_actor(rt, key)?;
-    let mut peer = open_peer(rt, file, actor, cut)?;
+    let mut peer = open_peer(rt, file, actor, wait, cut)?;
     match meet_over(rt.alloc(), input, out, role, &mut peer) {
         Ok(applied) => Ok(Met { peer, applied }),
         Err(error) => {

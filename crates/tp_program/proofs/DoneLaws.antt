@@ -1,16 +1,9 @@
--- What holds whatever a call answered, and what could be had of a journal.
-use Rattle.std.proofs.Common.{◌≡◌, ◌∙◌, ℕ, List, length, MatchResult, Option, None, Result, Ok, Err, ap, subst, sym}
+-- What holds whatever a call answered.
+use Rattle.std.proofs.Common.{◌≡◌, ℕ, List, MatchResult, Option, None, Result, Ok, Err, subst, sym}
 use Rattle.std.specs.Prelude.{IfErr, IfOk, IsOkAnd, OnErr, OnOk}
-use Rattle.tp_opid.specs.declared.doc_id.DocId.{DocId}
-use Rattle.tp_layout.specs.declared.parts.ChangeParts.{ChangeParts}
-use Rattle.tp_recovery.specs.Layout.{journal}
-use Rattle.tp_recovery.specs.Whole.{Inspects, Rescues}
-use Rattle.tp_recovery.specs.declared.rescuing.WholeRecord.{WholeRecord}
-use Rattle.tp_store.specs.declared.error.StoreError.{StoreError}
 use Rattle.tp_report.specs.Names.{WasMade}
 use Rattle.tp_report.specs.declared.error.JobError.{JobError}
 use Rattle.tp_report.specs.declared.error.JobError.TheVariants.{Command, Show, Line, Session, Unreached, Closed, Unsaid}
-use Rattle.tp_program.specs.Rescuing.{IsRescued, rescue_text, tail_start}
 
 -- what is there where it was done is there without what it gave back
 pub done_after : {A B E : Type 0} (r : Result A E) (d : Result (Option B) E) (P : Type 0) → MatchResult r (λ _. d ≡ Ok None) (λ e. d ≡ Err e) → OnOk r P → OnOk d P
@@ -43,23 +36,3 @@ made_of (Err (Line number)) printed P bytes was said = tt
 made_of (Err (Session e)) printed P bytes was said = tt
 made_of (Err (Unreached cause)) printed P bytes was said = tt
 made_of (Err Closed) printed P bytes was said = tt
-
--- the journal of all that could be had, and what is printed of that
-pub rescued : {A E : Type 0} (bytes : List ℕ) (r : Result A E) (made said : A → List ℕ) (id : DocId) (kept : List ChangeParts) (keep from : ℕ) (refused : Option StoreError)
-    (records : List WholeRecord) (changes : List ChangeParts) → Inspects bytes id kept keep refused records changes → from ≡ tail_start keep
-    → IfOk r (λ x. (had : List ChangeParts) × Rescues changes kept had × (made x ≡ journal id had) × (said x ≡ rescue_text had from (length bytes) records changes))
-    → IfOk r (λ x. IsRescued bytes (made x) (said x))
-rescued bytes (Ok x) made said id kept keep from refused records changes inspects start h = record {
-  id = id;
-  kept = kept;
-  keep = keep;
-  refused = refused;
-  records = records;
-  changes = changes;
-  had = h.0;
-  inspects = inspects;
-  rescues = h.1;
-  begun = h.2;
-  spelled = h.3 ∙ ap (λ n. rescue_text h.0 n (length bytes) records changes) start;
-}
-rescued bytes (Err e) made said id kept keep from refused records changes inspects start h = tt

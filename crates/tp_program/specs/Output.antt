@@ -1,5 +1,6 @@
 -- What is printed of a job, where it was done and where it was refused.
-use Rattle.std.specs.Prelude.{◌≡◌, ◌⊎◌, ℕ, Bool, true, false, List, [], Option, Some, None}
+use Rattle.std.specs.Prelude.{◌≡◌, ◌⊎◌, ℕ, Bool, true, false, List, [], map, Option, Some, None}
+use Rattle.std.specs.Borrow.{Bor}
 use Rattle.std.specs.Io.KnownBytes.{Keeps}
 use Rattle.std.specs.Str.{chars}
 use Rattle.tp_simulate.specs.Script.{IsScriptOutput as IsScriptPrinted, PrintsPart, StopsAtLine}
@@ -24,7 +25,7 @@ use Rattle.tp_command_line.specs.declared.job.Job.{Job}
 use Rattle.tp_command_line.specs.declared.job.Job.TheVariants.{Files, Follow, Serve, Session, Sync, Web}
 use Rattle.tp_disk.specs.DiskView.{DiskView, ChangesFile, OfFile}
 use Rattle.tp_disk.specs.Opening.{CutsFile, MayCutFile}
-use Rattle.tp_program.specs.Files.{IsLoaded, OfGiven, OfInserted, RescuesTo, SavesTo}
+use Rattle.tp_program.specs.Files.{IsLoaded, IsRecoveryOutput, OfGiven, OfInserted, SavesTo}
 use Rattle.tp_program.specs.Lines.{AreImportLines, AreUpdateLines, IsEditLine, IsMergeLine, IsNewLine}
 use Rattle.tp_program.specs.Rescuing.{IsChecked}
 use Rattle.tp_report.specs.JobError.{IsOfOutput, io_failure}
@@ -45,7 +46,7 @@ IsLogPrinted false most journal printed = AreChangeLines journal most printed
 -- what the bytes say that were read of the file; of `show` the text of a log; of `new` the identifier that is drawn; of `edit` the
 -- hash of the change that was made, or `nothing`; of `update` and `import` those of the changes that made the text that of a
 -- file; of `merge` how many changes of the other file entered; of `save` and `load`
--- nothing; of `check` what is in the bytes, of `recover` what could be had of them; of `simulate` the replies to the lines of a
+-- nothing; of `check` what is in the bytes, of `recover` what could be had of them, or what their records inserted; of `simulate` the replies to the lines of a
 -- script, and the one list of its world. And the file that a job writes was left as it says.
 abbrev pub IsFilesPrinted : (DiskView → Type 0) → FileJob → List ℕ → Type 0
 IsFilesPrinted saw (New file key) printed = ChangesFile saw file.now (λ before after. IsNewLine key before after printed)
@@ -68,7 +69,7 @@ IsFilesPrinted saw (Merge file other key) printed =
     ChangesFile saw file.now (λ before after. OfFile saw other.now (λ bytes. IsMergeLine key before bytes after printed))
 IsFilesPrinted saw (Save file out) printed = (printed ≡ []) × OfFile saw file.now (λ journal. SavesTo saw out.now journal)
 IsFilesPrinted saw (Load saved file) printed = (printed ≡ []) × OfFile saw saved.now (λ bytes. ChangesFile saw file.now (IsLoaded bytes))
-IsFilesPrinted saw (Recover file out) printed = OfFile saw file.now (λ bytes. RescuesTo saw out.now bytes printed)
+IsFilesPrinted saw (Recover file out others) printed = IsRecoveryOutput saw file.now out (map (λ p. p.now) others.items) None printed
 IsFilesPrinted saw (Show log) printed = IsShown printed
 IsFilesPrinted saw (Simulate script) printed = IsScriptPrinted printed
 
@@ -154,10 +155,18 @@ abbrev pub RefusesCheckOutput : (DiskView → Type 0) → List ℕ → Option (L
 RefusesCheckOutput saw file before e after = Keeps before after ⊎ ((IsOfOutput e × GrowsPart (λ printed. OfFile saw file (λ bytes. (fault : Option StoreError) × IsChecked bytes fault printed)) before after)
     ⊎ ((fault : StoreError) × (e ≡ Command (command_refusal_of_bytes fault)) × GrowsBy (λ printed. OfFile saw file (λ bytes. IsChecked bytes (Some fault) printed)) before after))
 
+-- What the output holds after the refusal of a recovery: as of others; or all that is printed of what could be had, and the
+-- refusal is for what the journal that was made lacks.
+abbrev pub RefusesRecoveryOutput : (DiskView → Type 0) → List ℕ → Option (Bor (List ℕ)) → List (List ℕ) → Option (List ℕ) → JobError → Option (List ℕ) → Type 0
+RefusesRecoveryOutput saw file out paths before e after = Keeps before after
+    ⊎ ((IsOfOutput e × GrowsPart (λ printed. (lacking : Option StoreError) × IsRecoveryOutput saw file out paths lacking printed) before after)
+    ⊎ ((lacking : StoreError) × (e ≡ Command (command_refusal_of_bytes lacking)) × GrowsBy (IsRecoveryOutput saw file out paths (Some lacking)) before after))
+
 -- What the output holds after the refusal of what is done to files. A script is printed as it goes on, all else at the end.
 abbrev pub RefusesFilesOutput : (DiskView → Type 0) → FileJob → Option (List ℕ) → JobError → Option (List ℕ) → Type 0
 RefusesFilesOutput saw (Simulate script) before e after = RefusesScriptOutput before e after
 RefusesFilesOutput saw (Check file) before e after = RefusesCheckOutput saw file.now before e after
+RefusesFilesOutput saw (Recover file out others) before e after = RefusesRecoveryOutput saw file.now out (map (λ p. p.now) others.items) before e after
 RefusesFilesOutput saw job before e after = RefusesPrinting (IsFilesPrinted saw job) before e after
 
 -- What the output holds after the refusal of a job. A server prints its port once it listens, and a page its address. A session has written frames,

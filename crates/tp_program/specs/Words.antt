@@ -3,11 +3,11 @@ use Rattle.std.specs.Prelude.{◌≡◌, ◌≢◌, ◌⊎◌, ℕ, Bool, List, 
 use Rattle.std.specs.Io.KnownBytes.{Keeps}
 use Rattle.clap.specs.Words.{Text, fault_of, subcommand_of}
 use Rattle.tp_command_line.specs.Commands.{IsFoundAs, subject_of, textpeer_app}
-use Rattle.tp_command_line.specs.LineError.{AskForNotOneText, AsksForHelp, RefusesReading, value_line}
+use Rattle.tp_command_line.specs.LineError.{AskForNotOne, AsksForHelp, RefusesReading, value_line}
 use Rattle.tp_command_line.specs.declared.error.LineError.{LineError}
 use Rattle.tp_command_line.specs.declared.error.LineError.TheVariants.{Request, Fault, Value}
 use Rattle.tp_command_line.specs.declared.error.ValueError.{ValueError}
-use Rattle.tp_command_line.specs.declared.error.ValueError.TheVariants.{NotOneText}
+use Rattle.tp_command_line.specs.declared.error.ValueError.TheVariants.{NotOneText, NotOneOutput}
 use Rattle.tp_command_line.specs.declared.job.Job.{Job}
 use Rattle.tp_report.specs.declared.error.JobError.{JobError}
 use Rattle.tp_disk.specs.DiskView.{DiskView}
@@ -36,11 +36,12 @@ IsRequest e = ⊥
 abbrev pub IsMisuse : LineError → Type 0
 IsMisuse (Fault e) = Unit {0}
 IsMisuse (Value NotOneText) = Unit {0}
+IsMisuse (Value NotOneOutput) = Unit {0}
 IsMisuse e = ⊥
 
--- the words are at fault: the parser finds one, or they ask for an edit with not one text
+-- the words are at fault: the parser finds one, or they ask for an edit with not one text, or for a recovery with not one output
 abbrev pub WereAtFault : List Text → Type 0
-WereAtFault words = (fault_of textpeer_app words ≢ []) ⊎ AskForNotOneText (fault_of textpeer_app words) (subcommand_of textpeer_app words)
+WereAtFault words = (fault_of textpeer_app words ≢ []) ⊎ AskForNotOne (fault_of textpeer_app words) (subcommand_of textpeer_app words)
 
 -- What help for the words could not be printed for: the output failed, or memory ran out and it stayed.
 abbrev pub RefusesHelp : JobError → Option (List ℕ) → Option (List ℕ) → Type 0

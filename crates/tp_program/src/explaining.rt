@@ -75,6 +75,10 @@ pub fn explain<W: Write, E: Write>(
             let _ = write_out(err, ValueError::NotOneText.line(explains).as_bytes());
             MISUSED
         }
+        LineError::Value(ValueError::NotOneOutput) => {
+            let _ = write_out(err, ValueError::NotOneOutput.line(explains).as_bytes());
+            MISUSED
+        }
         LineError::Value(error) => {
             let _ = write_out(err, error.line(explains).as_bytes());
             REFUSED

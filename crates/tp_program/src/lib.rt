@@ -3,6 +3,7 @@
 #![tactic(auto)]
 
 mod explaining;
+mod others;
 mod program;
 mod rescuing;
 mod running;

@@ -22,7 +22,7 @@ use std::sync::Wait;
 use std::thread::Threads;
 use std::time::{Clock, Duration};
 use std::{env, io};
-use tp_command_line::{Job, Subject, line, words_asked};
+use tp_command_line::{Job, Subject, Wanted, line, words_asked};
 use tp_commands::CommandError;
 use tp_disk::{Disk, is_cut};
 use tp_online::{Following, Serving, follow_file, serve_file, session_file, sync_file, web_file};
@@ -140,21 +140,23 @@ where
         × Keeps (W.contents out.old) (W.contents out.new) }
 {
     match line(rt.alloc(), words) {
-        Ok(job) => run_job(rt, job, explains, input, out, err),
+        Ok(Wanted { job, wait }) => {
+            run_job(rt, job, wait.unwrap_or(0), explains, input, out, err)
+        }
         Err(fault) => explain(rt.alloc(), &fault, explains, out, err),
     }
 }
 
 /// Does a job, and returns the exit status: 0 where it was done, and all that is printed of it was written to `out` and
 /// flushed; 1 where it was refused, with one line on `err`. `out` then has what was printed before; where `err` fails it has
-/// taken a beginning of the line.
+/// taken a beginning of the line. The lock of a journal that is written is waited for `wait` seconds.
 #[tactic(auto, using(crate::proofs::CutLaws::said_or_not))]
 pub fn run_job<
     R: Disk + Net + Threads + Wait + Clock + Eprint + AllocGlobal + Sync,
     I: Read,
     W: Write,
     E: Write,
->(rt: &R, job: Job, explains: bool, input: &mut I, out: &mut W, err: &mut E) -> u8
+>(rt: &R, job: Job, wait: u64, explains: bool, input: &mut I, out: &mut W, err: &mut E) -> u8
 where
     R::File: Send,
     R::Listener: Sync,
@@ -173,7 +175,7 @@ where
 {
     let subject = job.subject();
     let mut cut = None;
-    match do_job(rt, job, input, out, err, &mut cut) {
+    match do_job(rt, job, wait, input, out, err, &mut cut) {
         Ok(reported) => {
             report(rt.alloc(), subject.file, cut, reported, err);
             DONE
@@ -225,6 +227,7 @@ fn do_job<
 >(
     rt: &R,
     job: Job,
+    wait: u64,
     input: &mut I,
     out: &mut W,
     err: &mut E,
@@ -250,7 +253,7 @@ where
         e (W.contents out.new)) }
 {
     match job {
-        Job::Files(job) => without_value(carry_out(rt, job, input, out, cut)),
+        Job::Files(job) => without_value(carry_out(rt, job, wait, input, out, cut)),
         Job::Serve {
             file,
             addr,
@@ -265,6 +268,7 @@ where
                 workers: workers.clamp(1, 64) as usize,
                 patience: patience_of(patience),
                 is_verbose,
+                wait,
             };
             without_value(serve_file(rt, file, addr, &how, key, out, err, cut))
         }
@@ -272,7 +276,7 @@ where
             file,
             is_client,
             key,
-        } => match session_file(rt, file, role_of(is_client), key, input, out, cut) {
+        } => match session_file(rt, file, role_of(is_client), key, wait, input, out, cut) {
             Ok(met) => Ok(Some(met.applied)),
             Err(error) => Err(error),
         },
@@ -281,7 +285,7 @@ where
             addr,
             patience,
             key,
-        } => match sync_file(rt, file, addr, patience_of(patience), key, out, cut) {
+        } => match sync_file(rt, file, addr, patience_of(patience), key, wait, out, cut) {
             Ok(_) => Ok(None),
             Err(error) => Err(error),
         },
@@ -297,11 +301,12 @@ where
                 addr,
                 every: Duration::from_secs(every),
                 patience: patience_of(patience),
+                wait,
             };
             without_value(follow_file(rt, file, &how, sessions, key, out, err, cut))
         }
         Job::Web { file, hosting, key } => without_value(web_file(
-            rt, file, hosting, key, out, err, cut,
+            rt, file, hosting, key, wait, out, err, cut,
         )),
     }
 }

@@ -1,6 +1,6 @@
 //! Doing a job, and what is printed of it.
 
-ghost use Rattle.std.specs.Prelude.{◌≡◌, [], IfOk, IfErr, IfSome, None, OnErr, OnOk};
+ghost use Rattle.std.specs.Prelude.{◌≡◌, [], map, IfOk, IfErr, IfSome, Some, None, OnErr, OnOk};
 ghost use Rattle.std.specs.Str.{chars};
 ghost use Rattle.std.specs.String.{string_bytes};
 ghost use Rattle.tp_simulate.specs.Script.{Prints};
@@ -9,17 +9,18 @@ ghost use Rattle.tp_commands.specs.Diff.{IsDiff};
 ghost use Rattle.tp_commands.specs.Reading.{AreHeadLines, IsCursorLine, IsTextPrinted};
 ghost use Rattle.tp_commands.specs.Status.{IsStatus};
 ghost use Rattle.tp_commands.specs.declared.status.Lock.{Lock};
-ghost use Rattle.tp_program.specs.Files.{BeginsJournal, IsLoaded, OfInserted, RescuesTo, SavesTo};
+ghost use Rattle.tp_program.specs.Files.{BeginsJournal, IsLoaded, IsRecoveryOutput, OfInserted, RescuesTo, SavesTo};
 ghost use Rattle.tp_disk.specs.DiskView.{ChangesFile, OfFile};
 ghost use Rattle.tp_disk.specs.Opening.{CutsFile, MayCutFile};
 ghost use Rattle.tp_program.specs.Lines.{IsEditLine, IsMergeLine, IsNewLine, made_line as line_of_made};
 ghost use Rattle.tp_report.specs.Names.{WasMade, output_of_made};
-ghost use Rattle.tp_program.specs.Output.{CutsFor, IsFilesPrinted, IsLogPrinted, IsShown, RefusesCheckOutput, RefusesFilesOutput, RefusesScriptOutput, MayCutFor};
+ghost use Rattle.tp_program.specs.Output.{CutsFor, IsFilesPrinted, IsLogPrinted, IsShown, RefusesCheckOutput, RefusesFilesOutput, RefusesRecoveryOutput, RefusesScriptOutput, MayCutFor};
 ghost use Rattle.tp_report.specs.Telling.{GrowsBy, RefusesPrinting};
-ghost use Rattle.tp_program.specs.Rescuing.{IsChecked};
+ghost use Rattle.tp_program.specs.Rescuing.{IsChecked, OfOthers};
 ghost use Rattle.tp_report.specs.JobError.{IsAllSaid};
 
-use crate::rescuing::{check_report, rescue_report};
+use crate::others::{Others, inserted_texts, read_others};
+use crate::rescuing::{Rescued, check_report, rescue_report};
 use crate::texts::{import_text, read_input, update_text};
 use std::alloc::Global;
 use std::io::{BufReader, Read, Write};
@@ -36,17 +37,18 @@ use tp_opid::{Actor, DocId, Hash};
 use tp_peer::{PeerSequence, create_journal};
 use tp_report::{JobError, Made, put, put_made};
 use tp_simulate::simulate;
-use tp_store::load;
+use tp_store::{StoreError, load};
 use tp_textpeer::show;
 
 /// Does what is to be done to files, where the path `-` of a text names `input`, and writes what is printed of it to
 /// `out`, which is flushed. A refusal writes nothing
 /// to `out`; where `out` itself failed, which is refused as `Io`, or was closed by who read it, it has taken a beginning of
 /// what is printed; the refusal has what a job made whose lines these were. A script is printed line by line as it goes on, and
-/// what was printed before a refusal stays.
+/// what was printed before a refusal stays. The lock of a journal that is written is waited for `wait` seconds.
 pub fn carry_out<D: Disk + AllocGlobal, I: Read, W: Write>(
     rt: &D,
     job: FileJob,
+    wait: u64,
     input: &mut I,
     out: &mut W,
     cut: &mut Option<u64>,
@@ -66,7 +68,7 @@ pub fn carry_out<D: Disk + AllocGlobal, I: Read, W: Write>(
         (WasMade (IsFilesPrinted (D.saw rt.now) job.entry)) }
 {
     match job {
-        FileJob::New { file, key } => put_made(out, new(rt, file, key)),
+        FileJob::New { file, key } => put_made(out, new(rt, file, key, wait)),
         FileJob::Edit {
             file,
             at,
@@ -79,7 +81,7 @@ pub fn carry_out<D: Disk + AllocGlobal, I: Read, W: Write>(
             let place = (at as usize, del as usize);
             put_made(
                 out,
-                edited_by(rt, file, place, text, input, time, message, key, cut),
+                edited_by(rt, file, place, text, input, time, message, key, wait, cut),
             )
         }
         FileJob::Update {
@@ -91,7 +93,9 @@ pub fn carry_out<D: Disk + AllocGlobal, I: Read, W: Write>(
             key,
         } => put_made(
             out,
-            update_text(rt, file, source, &since, input, time, message, key, cut),
+            update_text(
+                rt, file, source, &since, input, time, message, key, wait, cut,
+            ),
         ),
         FileJob::Import {
             file,
@@ -101,7 +105,7 @@ pub fn carry_out<D: Disk + AllocGlobal, I: Read, W: Write>(
             key,
         } => put_made(
             out,
-            import_text(rt, file, source, input, time, message, key, cut),
+            import_text(rt, file, source, input, time, message, key, wait, cut),
         ),
         FileJob::Text {
             file,
@@ -115,10 +119,21 @@ pub fn carry_out<D: Disk + AllocGlobal, I: Read, W: Write>(
         FileJob::Status { file } => put(out, status(rt, file)),
         FileJob::Cursor { file, at, heads } => put(out, cursor(rt, file, at as usize, &heads)),
         FileJob::Check { file } => check_file(rt, file, out),
-        FileJob::Merge { file, other, key } => put(out, merge_files(rt, file, other, key, cut)),
+        FileJob::Merge { file, other, key } => {
+            put(out, merge_files(rt, file, other, key, wait, cut))
+        }
         FileJob::Save { file, out: path } => put(out, save_to(rt, file, path)),
-        FileJob::Load { saved, file } => put(out, load_from(rt, saved, file)),
-        FileJob::Recover { file, out: path } => put(out, recover_to(rt, file, path)),
+        FileJob::Load { saved, file } => put(out, load_from(rt, saved, file, wait)),
+        FileJob::Recover {
+            file,
+            out: Some(made),
+            others,
+        } => recover_file(rt, file, made, &others, out),
+        FileJob::Recover {
+            file,
+            out: None,
+            others,
+        } => put(out, texts_of_records(rt, file, &others)),
         FileJob::Show { log } => show_file(rt, log, out),
         FileJob::Simulate { script } => simulate_file(rt, script, out),
     }
@@ -252,6 +267,7 @@ fn new<D: Disk + AllocGlobal>(
     rt: &D,
     file: &str,
     key: Option<[u8; 32]>,
+    wait: u64,
 ) -> Result<(String, Option<Made>), CommandError>
     ensures line { IfOk result (λ p. ChangesFile (D.saw rt.now) file.now
         (λ before after. IsNewLine key before after (string_bytes p.0))) }
@@ -262,7 +278,7 @@ fn new<D: Disk + AllocGlobal>(
     let Actor(drawn) = draw(&mut generator);
     let id = DocId(drawn);
     let actor = draw(&mut generator);
-    let mut journal = begin(rt.alloc(), rt.make_journal(file)?, id, actor)?;
+    let mut journal = begin(rt.alloc(), rt.make_journal(file, wait)?, id, actor)?;
     rt.leave(file, &mut journal)?;
     Ok((id_line(rt.alloc(), &id)?, Some(Made::Document(id))))
 }
@@ -277,6 +293,7 @@ fn edited_by<D: Disk + AllocGlobal, I: Read>(
     time: u64,
     message: &str,
     key: Option<[u8; 32]>,
+    wait: u64,
     cut: &mut Option<u64>,
 ) -> Result<(String, Option<Made>), CommandError>
     requires { cut.old ≡ None }
@@ -294,12 +311,30 @@ fn edited_by<D: Disk + AllocGlobal, I: Read>(
     let (at, del) = place;
     match text {
         Inserted::Given(text) => {
-            edit_file(rt, file, Splice { at, del, text }, time, message, key, cut)
+            edit_file(
+                rt,
+                file,
+                Splice { at, del, text },
+                time,
+                message,
+                key,
+                wait,
+                cut,
+            )
         }
         Inserted::InFile(path) => {
             let bytes = read_input(rt, path, input)?;
             let text = text_in_file(&bytes)?;
-            edit_file(rt, file, Splice { at, del, text }, time, message, key, cut)
+            edit_file(
+                rt,
+                file,
+                Splice { at, del, text },
+                time,
+                message,
+                key,
+                wait,
+                cut,
+            )
         }
     }
 }
@@ -311,6 +346,7 @@ fn edit_file<D: Disk + AllocGlobal>(
     time: u64,
     message: &str,
     key: Option<[u8; 32]>,
+    wait: u64,
     cut: &mut Option<u64>,
 ) -> Result<(String, Option<Made>), CommandError>
     requires { cut.old ≡ None }
@@ -328,7 +364,7 @@ fn edit_file<D: Disk + AllocGlobal>(
         journal,
         recovered,
         cut: kept,
-    } = rt.journal(file)?;
+    } = rt.journal(file, wait)?;
     *cut = kept;
     let opened = (journal, Ok(recovered));
     let (mut journal, made) = edit(rt.alloc(), opened, actor, splice, time, message)?;
@@ -353,6 +389,7 @@ fn merge_files<D: Disk + AllocGlobal>(
     file: &str,
     other: &str,
     key: Option<[u8; 32]>,
+    wait: u64,
     cut: &mut Option<u64>,
 ) -> Result<String, CommandError>
     requires { cut.old ≡ None }
@@ -370,7 +407,7 @@ fn merge_files<D: Disk + AllocGlobal>(
         journal,
         recovered,
         cut: kept,
-    } = rt.journal(file)?;
+    } = rt.journal(file, wait)?;
     *cut = kept;
     let peer = reopen(rt.alloc(), (journal, Ok(recovered)), actor)?;
     match rt.recover(other) {
@@ -421,15 +458,70 @@ fn check_file<D: Disk + AllocGlobal, W: Write>(
     }
 }
 
-// Makes the journal of all that can be had of the one at a path.
-fn recover_to<D: Disk + AllocGlobal>(rt: &D, file: &str, out: &str) -> Result<String, CommandError>
-    ensures { IfOk result (λ l. OfFile (D.saw rt.now) file.now
-        (λ bytes. RescuesTo (D.saw rt.now) out.now bytes (string_bytes l))) }
+// Makes the journal of all that can be had of the one at a path and of other files; what is printed of that, and why it lacks
+// one of the first one's whole changes, if it does.
+fn recover_to<D: Disk + AllocGlobal>(
+    rt: &D,
+    file: &str,
+    made: &str,
+    paths: &[&str],
+) -> Result<(String, Option<StoreError>), CommandError>
+    ensures { IfOk result (λ r. OfFile (D.saw rt.now) file.now
+        (λ bytes. OfOthers (D.saw rt.now) (map (λ p. p.now) paths.now) (λ more ids.
+        RescuesTo (D.saw rt.now) made.now bytes more ids r.1 (string_bytes r.0)))) }
 {
     rt.check_journal(file)?;
-    let (journal, text) = rescue_report(rt.alloc(), &rt.read(file)?)?;
-    put_new(rt, out, file, &journal)?;
-    Ok(text)
+    let bytes = rt.read(file)?;
+    let Others { changes, ids } = read_others(rt, paths)?;
+    let Rescued {
+        journal,
+        text,
+        lacking,
+    } = rescue_report(rt.alloc(), &bytes, changes, &ids)?;
+    put_new(rt, made, file, &journal)?;
+    Ok((text, lacking))
+}
+
+// Makes the journal of all that can be had, and writes what is printed of that. It is refused for the first whole change that
+// is lacking, once that is written.
+fn recover_file<D: Disk + AllocGlobal, W: Write>(
+    rt: &D,
+    file: &str,
+    made: &str,
+    paths: &[&str],
+    out: &mut W,
+) -> Result<(), JobError>
+    ensures ok { OnOk result
+        (GrowsBy (IsRecoveryOutput (D.saw rt.now) file.now (Some made.entry)
+        (map (λ p. p.now) paths.now) None) (W.contents out.old) (W.contents out.new)) }
+    ensures err { IfErr result (λ e. RefusesRecoveryOutput (D.saw rt.now) file.now
+        (Some made.entry) (map (λ p. p.now) paths.now) (W.contents out.old)
+        e (W.contents out.new)) }
+    ensures said { IfErr result IsAllSaid }
+{
+    let (text, lacking) = recover_to(rt, file, made, paths)?;
+    match put(out, Ok(text)) {
+        Ok(()) => match lacking {
+            Some(error) => Err(JobError::Command(CommandError::from(error))),
+            None => Ok(()),
+        },
+        Err(error) => Err(error),
+    }
+}
+
+// What the whole records in the journal at a path, and in other files, inserted.
+fn texts_of_records<D: Disk + AllocGlobal>(
+    rt: &D,
+    file: &str,
+    paths: &[&str],
+) -> Result<String, CommandError>
+    ensures { IfOk result (λ l. IsRecoveryOutput (D.saw rt.now) file.now None
+        (map (λ p. p.now) paths.now) None (string_bytes l)) }
+{
+    rt.check_journal(file)?;
+    let bytes = rt.read(file)?;
+    let others = read_others(rt, paths)?;
+    inserted_texts(rt.alloc(), &bytes, &others.changes)
 }
 
 // Begins the journal at a path with the document.
@@ -437,22 +529,28 @@ fn begin_at<D: Disk + AllocGlobal>(
     rt: &D,
     file: &str,
     document: &Document<PeerSequence>,
+    wait: u64,
 ) -> Result<(), CommandError>
     ensures { OnOk result (ChangesFile (D.saw rt.now) file.now
         (λ before after. BeginsJournal document.now.id document.now.applied before after)) }
 {
-    let mut journal = rt.make_journal(file)?;
+    let mut journal = rt.make_journal(file, wait)?;
     create_journal(rt.alloc(), &mut journal, document)?;
     rt.leave(file, &mut journal)
 }
 
-fn load_from<D: Disk + AllocGlobal>(rt: &D, saved: &str, file: &str) -> Result<String, CommandError>
+fn load_from<D: Disk + AllocGlobal>(
+    rt: &D,
+    saved: &str,
+    file: &str,
+    wait: u64,
+) -> Result<String, CommandError>
     ensures empty { IfOk result (λ l. string_bytes l ≡ []) }
     ensures begun { OnOk result (OfFile (D.saw rt.now) saved.now
         (λ bytes. ChangesFile (D.saw rt.now) file.now (IsLoaded bytes))) }
 {
     let document = load::<PeerSequence>(rt.alloc(), &rt.read(saved)?)?;
-    let begun = begin_at(rt, file, &document);
+    let begun = begin_at(rt, file, &document, wait);
     drop(document);
     begun?;
     Ok(String::new(rt.alloc()))

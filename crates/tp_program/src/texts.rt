@@ -45,6 +45,7 @@ pub(crate) fn update_text<D: Disk + AllocGlobal, I: Read>(
     time: u64,
     message: &str,
     key: Option<[u8; 32]>,
+    wait: u64,
     cut: &mut Option<u64>,
 ) -> Result<(String, Option<Made>), CommandError>
     requires { cut.old ≡ None }
@@ -66,7 +67,7 @@ pub(crate) fn update_text<D: Disk + AllocGlobal, I: Read>(
         journal,
         recovered,
         cut: kept,
-    } = rt.journal(file)?;
+    } = rt.journal(file, wait)?;
     *cut = kept;
     let opened = (journal, Ok(recovered));
     let by = Metadata {
@@ -89,6 +90,7 @@ pub(crate) fn import_text<D: Disk + AllocGlobal, I: Read>(
     time: u64,
     message: &str,
     key: Option<[u8; 32]>,
+    wait: u64,
     cut: &mut Option<u64>,
 ) -> Result<(String, Option<Made>), CommandError>
     requires { cut.old ≡ None }
@@ -108,12 +110,12 @@ pub(crate) fn import_text<D: Disk + AllocGlobal, I: Read>(
     let mut generator = generator(rt, key)?;
     let Actor(drawn) = draw(&mut generator);
     let actor = draw(&mut generator);
-    begin_where_none(rt, file, DocId(drawn), actor)?;
+    begin_where_none(rt, file, DocId(drawn), actor, wait)?;
     let Opened {
         journal,
         recovered,
         cut: kept,
-    } = rt.journal(file)?;
+    } = rt.journal(file, wait)?;
     *cut = kept;
     let opened = (journal, recovered);
     let (mut journal, hashes) = import(rt.alloc(), opened, actor, text, time, message)?;
@@ -143,8 +145,9 @@ fn begin_where_none<D: Disk + AllocGlobal>(
     file: &str,
     id: DocId,
     actor: Actor,
+    wait: u64,
 ) -> Result<(), CommandError> {
-    match begin(rt.alloc(), rt.make_journal(file)?, id, actor) {
+    match begin(rt.alloc(), rt.make_journal(file, wait)?, id, actor) {
         Ok(mut journal) => rt.leave(file, &mut journal),
         Err(CommandError::Peer(PeerError::JournalNotEmpty)) => Ok(()),
         Err(error) => Err(error),

@@ -1,5 +1,5 @@
 -- The whole records that are in bytes, whatever else does.
-use Rattle.std.specs.Prelude.{◌≡◌, ◌≤◌, ◌-◌, ◌⊎◌, ℕ, List, [], ◌∷◌, ◌++◌, length, map, Option, Some, None}
+use Rattle.std.specs.Prelude.{◌≡◌, ◌≤◌, ◌-◌, ◌⊎◌, ℕ, List, [], ◌∷◌, ◌++◌, length, drop, map, Option, Some, None}
 use Rattle.tp_list.specs.Members.{In}
 use Rattle.tp_opid.specs.declared.doc_id.DocId.{DocId}
 use Rattle.tp_layout.specs.declared.parts.ChangeParts.{ChangeParts}
@@ -81,11 +81,19 @@ pub record KeepsNothing (bytes : List ℕ) (id : DocId) (C : List ChangeParts) (
 abbrev pub KeepsPart : List ℕ → DocId → List ChangeParts → ℕ → List ℕ → Option StoreError → Type 0
 KeepsPart bytes id C keep rest fault = KeepsRecords bytes id C keep rest fault ⊎ KeepsNothing bytes id C keep rest fault
 
--- What is in the bytes of a journal: what recovering keeps, and the whole records in the rest.
+-- Where whole records are looked for: in the rest, after the changes that are kept; in all after the magic where none is,
+-- since a byte of the header may be missing.
+abbrev pub LooksIn : List ℕ → List ChangeParts → List ℕ → List ℕ → Type 0
+LooksIn bytes [] rest looked = looked ≡ drop 8 bytes
+LooksIn bytes (c ∷ C) rest looked = looked ≡ rest
+
+-- What is in the bytes of a journal: what recovering keeps, and the whole records where they are looked for.
 pub record Inspects (bytes : List ℕ) (id : DocId) (C : List ChangeParts) (keep : ℕ) (fault : Option StoreError) (records : List WholeRecord) (changes : List ChangeParts) : Type 0 where
   pub rest : List ℕ
+  pub looked : List ℕ
   pub keeps : KeepsPart bytes id C keep rest fault
-  pub found : AreFound (length bytes) rest records changes
+  pub looks : LooksIn bytes C rest looked
+  pub found : AreFound (length bytes) looked records changes
 
 -- Some of the changes were put after the old ones; where none did, none of them fits.
 pub record EntersFitting (changes old new : List ChangeParts) : Type 0 where

@@ -20,5 +20,5 @@ pub use laws::{
 pub use layout::{DIGEST_BYTES, HEADER_BYTES, MAGIC};
 pub use pieces::Recovering;
 pub use recovering::{Recovered, recover};
-pub use rescuing::{Inspection, WholeRecord, holds_record, inspect, rescue};
+pub use rescuing::{Inspection, WholeRecord, holds_record, inspect, rescue, whole_records};
 pub use writing::{header, put_record, record};

@@ -7,7 +7,7 @@ ghost use Rattle.tp_history.specs.Fit.{cause};
 ghost use Rattle.tp_recovery.specs.Layout.{IsDocId, header_of, record_of};
 ghost use Rattle.tp_recovery.specs.Pieces.{BeginsWithJournal};
 ghost use Rattle.tp_recovery.specs.Refusals.{IsHeaderFault};
-ghost use Rattle.tp_recovery.specs.Whole.{AreFound, BeginsNone, TailFault, HoldsRecord, Inspects, KeepsPart, EntersFitting, Rescues};
+ghost use Rattle.tp_recovery.specs.Whole.{AreFound, BeginsNone, TailFault, HoldsRecord, Inspects, KeepsPart, LooksIn, EntersFitting, Rescues};
 ghost use Rattle.tp_store.specs.declared.error.StoreError.TheVariants.{OutOfMemory};
 
 use crate::layout::HEADER_BYTES;
@@ -43,7 +43,7 @@ pub struct Inspection<S: Sequence> {
     /// Why [`recover`](crate::recover) refuses the bytes. `None` where all after those that are kept is one record that
     /// wasn't written to its end, or nothing.
     pub fault: Option<StoreError>,
-    /// The whole records after the bytes that are kept, rising.
+    /// The whole records after the bytes that are kept, rising. Where no change is kept they may begin within the header.
     pub records: Vec<WholeRecord>,
     /// Their changes.
     pub changes: Vec<Change>,
@@ -209,12 +209,48 @@ fn find_whole(alloc: Global, bytes: &[u8], total: usize) -> Result<Found, StoreE
     Ok((records, changes))
 }
 
+/// The whole records anywhere in bytes, each with the digest that is right, and their changes. One is looked for at each
+/// byte, after the one before, and offsets count from the first byte. The only refusal is `OutOfMemory`.
+///
+/// The cost is that of hashing and decoding each change, and of a look at each other byte.
+pub fn whole_records(
+    alloc: Global,
+    bytes: &[u8],
+) -> Result<(Vec<WholeRecord>, Vec<Change>), StoreError>
+    ensures ok { IfOk result
+        (λ f. AreFound (length bytes.now) bytes.now f.0.items f.1.items) }
+    ensures err { IsOkUnless result OutOfMemory }
+{
+    find_whole(alloc, bytes, bytes.len())
+}
+
+// The bytes in which whole records are looked for: those after what is kept. Where no change is, a byte of the header may
+// be missing or be there twice, so that all after its first 8 bytes are looked through.
+fn to_look_through<'a, S: Sequence>(
+    document: &Document<S>,
+    bytes: &'a [u8],
+    rest: &'a [u8],
+) -> &'a [u8]
+    requires header { 8 ≤ length bytes.now }
+    requires rest { length rest.now ≤ length bytes.now }
+    ensures looks { LooksIn bytes.now document.now.applied rest.now result.now }
+    ensures few { length result.now ≤ length bytes.now }
+{
+    if document.changes().is_empty() {
+        let (_magic, beyond) = bytes.split_at(8);
+        beyond
+    } else {
+        rest
+    }
+}
+
 /// What is in the bytes of a journal, whatever is damaged in it: what [`recover`](crate::recover) keeps, and all whole
 /// records after that, each with the digest that is right. One is looked for at each byte, after the one before.
 ///
-/// Where the first 8 bytes aren't the magic nothing is kept, and records are looked for after the 24 of the header; the
-/// document has the identifier that is there. It is refused as `BadMagic` or `NoHeader` only where there are fewer
-/// than 24 bytes, as by `recover`. The only other refusal is `OutOfMemory`.
+/// Where the first 8 bytes aren't the magic nothing is kept, and the document has the identifier that is in the 16 after
+/// them. Where no change is kept, records are looked for from the ninth byte on, so that a header that lost a byte hides
+/// none but the first. It is refused as `BadMagic` or `NoHeader` only where there are fewer than 24 bytes, as by `recover`.
+/// The only other refusal is `OutOfMemory`.
 ///
 /// The cost is that of `recover`, and of a look at each byte after the fault; where a length that may be a record's is
 /// there, also of hashing and decoding what would be its change.
@@ -225,7 +261,8 @@ pub fn inspect<S: Sequence>(alloc: Global, bytes: &[u8]) -> Result<Inspection<S>
         ⊎ (IsHeaderFault bytes.now e × (length bytes.now < 24))) }
 {
     let (document, keep, fault, rest) = keep_whole(alloc, bytes)?;
-    match find_whole(alloc, rest, bytes.len()) {
+    let look = to_look_through(&document, bytes, rest);
+    match find_whole(alloc, look, bytes.len()) {
         Ok((records, changes)) => Ok(Inspection {
             document,
             keep,

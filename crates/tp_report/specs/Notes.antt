@@ -10,7 +10,7 @@ use Rattle.tp_store.specs.declared.error.StoreError.TheVariants.{Damaged}
 use Rattle.tp_report.specs.declared.error.JobError.{JobError}
 use Rattle.tp_report.specs.declared.error.JobError.TheVariants.{Command, Show as ShowRefusal, Line}
 use Rattle.tp_command_line.specs.declared.job.Beside.{Beside}
-use Rattle.tp_command_line.specs.declared.job.Beside.TheVariants.{Loaded, Made, Read, Text}
+use Rattle.tp_command_line.specs.declared.job.Beside.TheVariants.{Loaded, Made, Read, Rescued, Text}
 use Rattle.tp_command_line.specs.declared.job.Subject.{Subject}
 use Rattle.tp_list.specs.Bytes.{line}
 
@@ -22,6 +22,7 @@ fault_path (Read other) file (Command (Peer (peer.Doc OtherDocument))) = other.n
 fault_path (Text source) file (Command (NotText at)) = source.now
 fault_path (Made out) file (Command (Peer JournalNotEmpty)) = out.now
 fault_path (Loaded journal) file (Command (Peer JournalNotEmpty)) = journal.now
+fault_path (Rescued (Some out) other) file (Command (Peer JournalNotEmpty)) = out.now
 fault_path beside file e = file
 
 abbrev pub path_at_fault : Subject → JobError → List ℕ

@@ -34,6 +34,18 @@ pub(crate) const NO_SAVED_FILE: &str =
 pub(crate) const NO_FILE_OF_OURS: &str =
     "it doesn't begin as a saved file does: textpeer save writes one";
 
+/// What is said of a damaged journal of which not all whole changes are in the one that was made.
+pub(crate) const LEFT_OUT: &str =
+    "not all of its whole changes are in the journal that was made; each line `left` says why. --with takes what was cut off, or another copy; --texts prints what they inserted";
+
+/// What is said where files to recover have identifiers that differ.
+pub(crate) const OTHER_HEADER: &str =
+    "a file of --with is of another document, as its header says; nothing was made. If it is of this one all the same, give what follows its first 8 bytes";
+
+/// What is said where a journal isn't made, and other files are read for it.
+pub(crate) const NOT_RESCUED: &str =
+    "it can't be made: its folder isn't there or may not be written, or the disk is full; or another file of --with can't be read";
+
 /// Why a file can't be used, as it goes on after its path and a colon.
 pub(crate) fn of_cause(cause: Cause) -> &'static str {
     match cause {

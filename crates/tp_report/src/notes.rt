@@ -6,8 +6,8 @@ ghost use Rattle.tp_report.specs.Notes.{IsNote, IsNoteOf, names_file as is_file_
 ghost use Rattle.tp_list.specs.Bytes.{line};
 
 use crate::advice::{
-    GONE, NO_FILE_OF_OURS, NO_OUTPUT, NO_SAVED_FILE, NOT_WRITTEN, OTHER_SIDE, advice, of_cause,
-    of_journal,
+    GONE, LEFT_OUT, NO_FILE_OF_OURS, NO_OUTPUT, NO_SAVED_FILE, NOT_RESCUED, NOT_WRITTEN,
+    OTHER_HEADER, OTHER_SIDE, advice, of_cause, of_journal,
 };
 use crate::error::JobError;
 use std::alloc::{AllocError, Global};
@@ -39,6 +39,10 @@ fn path_at_fault<'a>(subject: &Subject<'a>, error: &JobError) -> &'a str
             Beside::Loaded(journal),
             JobError::Command(CommandError::Peer(PeerError::JournalNotEmpty)),
         ) => journal,
+        (
+            Beside::Rescued(Some(out), _),
+            JobError::Command(CommandError::Peer(PeerError::JournalNotEmpty)),
+        ) => out,
         _ => subject.file,
     }
 }
@@ -157,6 +161,7 @@ fn beside_advice<D: Disk + AllocGlobal>(
 ) -> Result<String, AllocError> {
     match beside {
         Beside::Made(made) => made_advice(rt, made),
+        Beside::Rescued(made, other) => rescued_advice(rt, file, made, other),
         Beside::Nothing => match rt.write_cause(file) {
             Some(_) => of_path(rt.alloc(), file, NOT_WRITTEN),
             None => of_path(rt.alloc(), file, NO_OUTPUT),
@@ -165,6 +170,34 @@ fn beside_advice<D: Disk + AllocGlobal>(
             Some(cause) => of_path(rt.alloc(), file, of_journal(cause)),
             None => other_advice(rt, file, beside),
         },
+    }
+}
+
+// What is said where a damaged journal can be read, of another file that is read for it, or of the journal that is made.
+fn rescued_advice<D: Disk + AllocGlobal>(
+    rt: &D,
+    file: &str,
+    made: Option<&str>,
+    other: Option<&str>,
+) -> Result<String, AllocError> {
+    let cause = match other {
+        Some(other) => rt.cause(other),
+        None => None,
+    };
+    match (cause, other, made) {
+        (Some(cause), Some(other), _) => of_path(rt.alloc(), other, of_cause(cause)),
+        (_, Some(_), Some(made)) => of_path(rt.alloc(), made, NOT_RESCUED),
+        (_, _, Some(made)) => made_advice(rt, made),
+        (_, _, None) => of_path(rt.alloc(), file, NO_OUTPUT),
+    }
+}
+
+// What is said of a refusal, where a damaged journal is recovered and where not.
+fn rescue_advice(beside: Beside<'_>, error: CommandError) -> &'static str {
+    match (beside, error) {
+        (Beside::Rescued(Some(_), _), CommandError::Store(StoreError::Refused(_))) => LEFT_OUT,
+        (Beside::Rescued(_, _), CommandError::Doc(DocError::OtherDocument)) => OTHER_HEADER,
+        (_, error) => advice(error),
     }
 }
 
@@ -240,7 +273,7 @@ fn sentence<D: Disk + AllocGlobal>(
         JobError::Command(CommandError::Peer(PeerError::JournalFailed)) => {
             failed_advice(rt, subject.file)
         }
-        JobError::Command(error) => advice(*error),
+        JobError::Command(error) => rescue_advice(subject.beside, *error),
         JobError::Line(number) => return script_advice(rt, subject.file, *number),
         JobError::Show(_) => "each change has to be whole, and to follow the one before it",
         JobError::Session(error) => session_advice(*error),

@@ -48,7 +48,7 @@ fn two_write_at_once(rt: HostRuntime) -> Result<(), Fail> {
             &mut one,
             &mut peer,
             r#"{"open":{}}"#,
-            r#"{"opened":{"document":"07070707070707070707070707070707","actor":"02020202020202020202020202020202","number":1,"heads":[],"text":""}}"#,
+            r#"{"opened":{"document":"07070707070707070707070707070707","actor":"02020202020202020202020202020202","number":1,"count":0,"heads":[],"text":""}}"#,
             false
         )?
     );
@@ -58,7 +58,7 @@ fn two_write_at_once(rt: HostRuntime) -> Result<(), Fail> {
             &mut one,
             &mut peer,
             r#"{"edit":{"on":1,"splices":[{"at":0,"del":0,"text":"abc"}]}}"#,
-            r#"{"edited":{"made":"874f9103c285584ed7935bc778760e7dc8d22abb79f4069061e8c8eb15a1ff55","number":2,"heads":["874f9103c285584ed7935bc778760e7dc8d22abb79f4069061e8c8eb15a1ff55"],"splices":[]}}"#,
+            r#"{"edited":{"made":"874f9103c285584ed7935bc778760e7dc8d22abb79f4069061e8c8eb15a1ff55","number":2,"count":1,"heads":["874f9103c285584ed7935bc778760e7dc8d22abb79f4069061e8c8eb15a1ff55"],"splices":[]}}"#,
             false
         )?
     );
@@ -68,7 +68,7 @@ fn two_write_at_once(rt: HostRuntime) -> Result<(), Fail> {
             &mut two,
             &mut peer,
             r#"{"edit":{"heads":[],"splices":[{"at":0,"del":0,"text":"x"}]}}"#,
-            r#"{"edited":{"made":"76b059c74bf9093b39c007e0af96996f3bcdc9efa37a3cf398b5fc3dc72c1454","number":1,"heads":["76b059c74bf9093b39c007e0af96996f3bcdc9efa37a3cf398b5fc3dc72c1454","874f9103c285584ed7935bc778760e7dc8d22abb79f4069061e8c8eb15a1ff55"],"splices":[{"at":1,"del":0,"text":"abc"}]}}"#,
+            r#"{"edited":{"made":"76b059c74bf9093b39c007e0af96996f3bcdc9efa37a3cf398b5fc3dc72c1454","number":1,"count":2,"heads":["76b059c74bf9093b39c007e0af96996f3bcdc9efa37a3cf398b5fc3dc72c1454","874f9103c285584ed7935bc778760e7dc8d22abb79f4069061e8c8eb15a1ff55"],"splices":[{"at":1,"del":0,"text":"abc"}]}}"#,
             false
         )?
     );
@@ -78,7 +78,7 @@ fn two_write_at_once(rt: HostRuntime) -> Result<(), Fail> {
             &mut one,
             &mut peer,
             r#"{"look":{"heads":["874f9103c285584ed7935bc778760e7dc8d22abb79f4069061e8c8eb15a1ff55"]}}"#,
-            r#"{"looked":{"number":3,"heads":["76b059c74bf9093b39c007e0af96996f3bcdc9efa37a3cf398b5fc3dc72c1454","874f9103c285584ed7935bc778760e7dc8d22abb79f4069061e8c8eb15a1ff55"],"splices":[{"at":0,"del":0,"text":"x"}]}}"#,
+            r#"{"looked":{"number":3,"count":2,"heads":["76b059c74bf9093b39c007e0af96996f3bcdc9efa37a3cf398b5fc3dc72c1454","874f9103c285584ed7935bc778760e7dc8d22abb79f4069061e8c8eb15a1ff55"],"splices":[{"at":0,"del":0,"text":"x"}]}}"#,
             false
         )?
     );
@@ -88,7 +88,7 @@ fn two_write_at_once(rt: HostRuntime) -> Result<(), Fail> {
             &mut two,
             &mut peer,
             r#"{"look":{"heads":["76b059c74bf9093b39c007e0af96996f3bcdc9efa37a3cf398b5fc3dc72c1454","874f9103c285584ed7935bc778760e7dc8d22abb79f4069061e8c8eb15a1ff55"]}}"#,
-            r#"{"looked":{"number":2,"heads":["76b059c74bf9093b39c007e0af96996f3bcdc9efa37a3cf398b5fc3dc72c1454","874f9103c285584ed7935bc778760e7dc8d22abb79f4069061e8c8eb15a1ff55"],"splices":[]}}"#,
+            r#"{"looked":{"number":2,"count":2,"heads":["76b059c74bf9093b39c007e0af96996f3bcdc9efa37a3cf398b5fc3dc72c1454","874f9103c285584ed7935bc778760e7dc8d22abb79f4069061e8c8eb15a1ff55"],"splices":[]}}"#,
             false
         )?
     );
@@ -98,7 +98,7 @@ fn two_write_at_once(rt: HostRuntime) -> Result<(), Fail> {
             &mut two,
             &mut peer,
             r#"{"resume":{"actor":"02020202020202020202020202020202","heads":[]}}"#,
-            r#"{"resumed":{"actor":"03030303030303030303030303030303","made":"874f9103c285584ed7935bc778760e7dc8d22abb79f4069061e8c8eb15a1ff55"}}"#,
+            r#"{"resumed":{"actor":"03030303030303030303030303030303","number":3,"made":"874f9103c285584ed7935bc778760e7dc8d22abb79f4069061e8c8eb15a1ff55"}}"#,
             false
         )?
     );
@@ -108,7 +108,27 @@ fn two_write_at_once(rt: HostRuntime) -> Result<(), Fail> {
             &mut two,
             &mut peer,
             r#"{"resume":{"actor":"02020202020202020202020202020202","heads":["874f9103c285584ed7935bc778760e7dc8d22abb79f4069061e8c8eb15a1ff55"]}}"#,
-            r#"{"resumed":{"actor":"03030303030303030303030303030303","made":null}}"#,
+            r#"{"resumed":{"actor":"03030303030303030303030303030303","number":4,"made":null}}"#,
+            false
+        )?
+    );
+    assert!(rt;
+        answers_so(
+            alloc,
+            &mut two,
+            &mut peer,
+            r#"{"resume":{"actor":"02020202020202020202020202020202","count":0}}"#,
+            r#"{"resumed":{"actor":"03030303030303030303030303030303","number":5,"made":"874f9103c285584ed7935bc778760e7dc8d22abb79f4069061e8c8eb15a1ff55"}}"#,
+            false
+        )?
+    );
+    assert!(rt;
+        answers_so(
+            alloc,
+            &mut two,
+            &mut peer,
+            r#"{"resume":{"actor":"02020202020202020202020202020202","count":1}}"#,
+            r#"{"resumed":{"actor":"03030303030303030303030303030303","number":6,"made":null}}"#,
             false
         )?
     );
@@ -118,7 +138,7 @@ fn two_write_at_once(rt: HostRuntime) -> Result<(), Fail> {
             &mut one,
             &mut peer,
             r#"{"look":{"on":2}}"#,
-            r#"{"looked":{"number":4,"heads":["76b059c74bf9093b39c007e0af96996f3bcdc9efa37a3cf398b5fc3dc72c1454","874f9103c285584ed7935bc778760e7dc8d22abb79f4069061e8c8eb15a1ff55"],"splices":[{"at":0,"del":0,"text":"x"}]}}"#,
+            r#"{"looked":{"number":4,"count":2,"heads":["76b059c74bf9093b39c007e0af96996f3bcdc9efa37a3cf398b5fc3dc72c1454","874f9103c285584ed7935bc778760e7dc8d22abb79f4069061e8c8eb15a1ff55"],"splices":[{"at":0,"del":0,"text":"x"}]}}"#,
             false
         )?
     );
@@ -158,6 +178,8 @@ fn a_wrong_request_ends_a_window(rt: HostRuntime) -> Result<(), Fail> {
         r#"{"look":{"heads":["00"]}}"#,
         r#"{"look":{}}"#,
         r#"{"look":{"heads":[],"on":1}}"#,
+        r#"{"resume":{"actor":"02020202020202020202020202020202"}}"#,
+        r#"{"resume":{"actor":"02020202020202020202020202020202","heads":[],"count":0}}"#,
         r#"{"edit":{"heads":[],"splices":[{"at":-1,"del":0,"text":"x"}]}}"#,
     ] {
         assert!(rt;
@@ -197,6 +219,16 @@ fn a_wrong_request_ends_a_window(rt: HostRuntime) -> Result<(), Fail> {
             &mut one,
             &mut peer,
             r#"{"look":{"on":1}}"#,
+            r#"{"refused":{"reason":"Forgotten"}}"#,
+            true
+        )?
+    );
+    assert!(rt;
+        answers_so(
+            alloc,
+            &mut one,
+            &mut peer,
+            r#"{"resume":{"actor":"02020202020202020202020202020202","count":1}}"#,
             r#"{"refused":{"reason":"Forgotten"}}"#,
             true
         )?

@@ -15,7 +15,7 @@ use std::io::ErrorKind;
 use std::rt::Files;
 use std::time::Clock;
 use std::{fs, io};
-use tp_command_line::{Job, line, words_asked};
+use tp_command_line::{Job, Wanted, line, words_asked};
 use tp_commands::CommandError;
 use tp_journal::Lockable;
 use tp_program::{Errors, carry_out, explain, refused_with};
@@ -56,6 +56,7 @@ fn limits_of(words: &mut Words) -> Result<Limits, Fault> {
 fn run_job<R: Files + Clock + Print + AllocGlobal>(
     rt: &R,
     job: Job,
+    wait: u64,
     input: &mut &[u8],
     cut: &mut Option<u64>,
 ) -> Result<(), JobError>
@@ -64,7 +65,7 @@ where
     requires { cut.old ≡ None }
 {
     match job {
-        Job::Files(job) => carry_out(rt, job, input, &mut io::writer(rt), cut),
+        Job::Files(job) => carry_out(rt, job, wait, input, &mut io::writer(rt), cut),
         _ => Err(JobError::Command(CommandError::Io)),
     }
 }
@@ -86,11 +87,11 @@ where
     };
     let explains = asked.explains;
     match line(rt.alloc(), &asked.words) {
-        Ok(job) => {
+        Ok(Wanted { job, wait }) => {
             let subject = job.subject();
             let mut cut = None;
             let mut rest = input;
-            match run_job(rt, job, &mut rest, &mut cut) {
+            match run_job(rt, job, wait.unwrap_or(0), &mut rest, &mut cut) {
                 Ok(()) => {
                     report(rt.alloc(), subject.file, cut, None, &mut err);
                     DONE

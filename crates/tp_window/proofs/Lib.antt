@@ -7,3 +7,4 @@ pub mod AnswerLaws
 pub mod NumberLaws
 pub mod MeaningLaws
 pub mod RefusalLaws
+pub mod FirstLaws

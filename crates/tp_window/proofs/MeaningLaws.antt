@@ -37,7 +37,7 @@ same_hash : (h k : Hash) → h.0 ≡ k.0 → h ≡ k
 same_hash h k e = ap (λ (bytes : List ℕ). let hash : Hash = record { 0 = bytes } in hash) e
 
 -- texts spell one list of hashes
-one_list : (texts : List (String Global)) (H K : List Hash) → SpellHashes texts H → SpellHashes texts K → H ≡ K
+pub one_list : (texts : List (String Global)) (H K : List Hash) → SpellHashes texts H → SpellHashes texts K → H ≡ K
 one_list [] [] [] h k = refl
 one_list [] [] (y ∷ K) h k = absurd k
 one_list [] (x ∷ H) K h k = absurd h

@@ -19,7 +19,7 @@ use Rattle.tp_peer.specs.PeerState.{PeerState}
 use Rattle.tp_edit.specs.Text.{IsTextOf}
 use Rattle.tp_window.specs.Answers.{AreShownChanges, ShowDifferences, WriteHashes, WritesActor, WritesHash}
 use Rattle.tp_window.specs.Numbers.{next_number}
-use Rattle.tp_window.specs.Requests.{AreTypedSplices, DoesRequest, SpellHashes, MeansHeads}
+use Rattle.tp_window.specs.Requests.{AreTypedSplices, DoesRequest, MeansHeads, ResumesHeads}
 use Rattle.tp_window.specs.Windows.{IsNews, MadeOn, Page, ShowsText, with_edit, with_news}
 use Rattle.tp_window.specs.declared.answer.Answer.{Answer}
 use Rattle.tp_window.specs.declared.answer.Answer.TheVariants as answer
@@ -27,6 +27,7 @@ use Rattle.tp_window.specs.declared.memory.Memory.{Memory}
 use Rattle.tp_window.specs.declared.news.News.{News}
 use Rattle.tp_window.specs.declared.outcome.Outcome.{Outcome}
 use Rattle.tp_window.specs.declared.outcome.Outcome.TheVariants as outcome
+use Rattle.tp_window.specs.declared.outcome.Resumed.{Resumed}
 use Rattle.tp_window.specs.declared.request.Request.{Request}
 use Rattle.tp_window.specs.declared.request.Request.TheVariants as request
 use Rattle.tp_window.specs.declared.request.TypedEdit.{TypedEdit}
@@ -36,14 +37,13 @@ use Rattle.tp_window.specs.declared.writing.TheConstants.{MOST_CHANGES}
 
 -- ---- what it comes to
 
--- The hash is that of a change which the actor, whose digits the text is, made on exactly the heads that the texts spell; or it made
--- none.
-pub record IsMadeBy (actor : List ℕ) (heads : List (String Global)) (C : List ChangeParts) (made : Option Hash) : Type 0 where
+-- The heads are those that a page had which is resumed, and the hash is that of a change which the actor, whose digits the text is,
+-- made on exactly these; or it made none.
+pub record IsMadeBy (actor : List ℕ) (heads : Option (Vec (String Global) Global)) (count : Option ℕ) (C : List ChangeParts) (resumed : Resumed) : Type 0 where
   pub who : Actor
-  pub hashes : List Hash
   pub spelled : IsHexOf actor who.0
-  pub each : SpellHashes heads hashes
-  pub is : MadeOn who hashes C made
+  pub at : ResumesHeads C heads count resumed.heads.items
+  pub is : MadeOn who resumed.heads.items C resumed.made
 
 -- What is new since the text at the heads that a request means.
 pub record IsNewsSince (memory : Memory) (heads : Option (Vec (String Global) Global)) (on : Option ℕ) (C : List ChangeParts) (news : News) : Type 0 where
@@ -71,7 +71,7 @@ pub record IsTypedEdit (window : Window) (edit : TypedEdit) (time : ℕ) (p p' :
 -- What a window's request comes to at that time, which a peer p did and is p' then.
 abbrev pub ComesTo : Window → Request → ℕ → PeerState → PeerState → Outcome → Type 0
 ComesTo window request.Open time p p' (outcome.Text text) = IsTextOf p'.applied (chars (string_bytes text))
-ComesTo window (request.Resume who heads) time p p' (outcome.Made made) = IsMadeBy (string_bytes who) heads.items p'.applied made
+ComesTo window (request.Resume who heads count) time p p' (outcome.Made resumed) = IsMadeBy (string_bytes who) heads count p'.applied resumed
 ComesTo window (request.Edit edit) time p p' (outcome.Edit edited) = IsTypedEdit window edit time p p' edited
 ComesTo window (request.Look heads on) time p p' (outcome.News news) = IsNewsSince window.memory heads on p'.applied news
 ComesTo window (request.Changes from most) time p p' (outcome.Changes first many) = (first ≡ from) × (many ≡ most)
@@ -88,32 +88,35 @@ WritesAny (Some hash) None = ⊥
 WritesAny (Some hash) (Some text) = WritesHash hash text
 
 -- The answer shows the outcome in the window, of a document with the identifier and the changes C. Its heads have the window's next
--- number.
+-- number, and beside them is how many changes there are.
 abbrev pub ShowsOutcome : Window → DocId → List ChangeParts → Outcome → Answer → Type 0
-ShowsOutcome window id C (outcome.Text text) (answer.Opened document who number heads shown) =
+ShowsOutcome window id C (outcome.Text text) (answer.Opened document who number count heads shown) =
     (string_bytes document ≡ encode_lower id.0) × WritesActor window.actor who × (number ≡ next_number window.memory)
-    × WriteHashes (heads_of C) heads.items × (shown.now ≡ string_bytes text)
-ShowsOutcome window id C (outcome.Made made) (answer.Resumed who shown) = WritesActor window.actor who × WritesAny made shown
-ShowsOutcome window id C (outcome.Edit edited) (answer.Edited made number heads splices) =
-    WritesAny edited.made made × (number ≡ next_number window.memory) × WriteHashes edited.news.heads.items heads.items
-    × ShowDifferences edited.news.differences.items splices.items
-ShowsOutcome window id C (outcome.News news) (answer.Looked number heads splices) =
-    (number ≡ next_number window.memory) × WriteHashes news.heads.items heads.items × ShowDifferences news.differences.items splices.items
+    × (count ≡ length C) × WriteHashes (heads_of C) heads.items × (shown.now ≡ string_bytes text)
+ShowsOutcome window id C (outcome.Made resumed) (answer.Resumed who number shown) =
+    WritesActor window.actor who × (number ≡ next_number window.memory) × WritesAny resumed.made shown
+ShowsOutcome window id C (outcome.Edit edited) (answer.Edited made number count heads splices) =
+    WritesAny edited.made made × (number ≡ next_number window.memory) × (count ≡ length C)
+    × WriteHashes edited.news.heads.items heads.items × ShowDifferences edited.news.differences.items splices.items
+ShowsOutcome window id C (outcome.News news) (answer.Looked number count heads splices) =
+    (number ≡ next_number window.memory) × (count ≡ length C) × WriteHashes news.heads.items heads.items
+    × ShowDifferences news.differences.items splices.items
 ShowsOutcome window id C (outcome.Changes from most) (answer.Changes count shown) =
     (count ≡ length C) × AreShownChanges (take (min most MOST_CHANGES) (drop from C)) shown.items
 ShowsOutcome window id C (outcome.Effect effect) (answer.Change text splices) =
     (text.now ≡ string_bytes effect.text) × ShowDifferences effect.differences.items splices.items
 ShowsOutcome window id C _ _ = ⊥
 
--- The heads that such an answer has, where it has any.
+-- The heads to which the number of such an answer belongs, where it has one.
 abbrev pub HasShown : List ChangeParts → Outcome → Option (Vec Hash Global) → Type 0
 HasShown C (outcome.Text text) (Some heads) = heads.items ≡ heads_of C
 HasShown C (outcome.Edit edited) (Some heads) = heads ≡ edited.news.heads
 HasShown C (outcome.News news) (Some heads) = heads ≡ news.heads
+HasShown C (outcome.Made resumed) (Some heads) = heads ≡ resumed.heads
 HasShown C (outcome.Text text) None = ⊥
 HasShown C (outcome.Edit edited) None = ⊥
 HasShown C (outcome.News news) None = ⊥
-HasShown C (outcome.Made made) heads = heads ≡ None
+HasShown C (outcome.Made resumed) None = ⊥
 HasShown C (outcome.Changes from most) heads = heads ≡ None
 HasShown C (outcome.Effect effect) heads = heads ≡ None
 

@@ -1,5 +1,5 @@
 -- Why a page's request is refused.
-use Rattle.std.specs.Prelude.{◌≡◌, ◌⊎◌, ℕ, Any, List, Option, String, Vec, false, length}
+use Rattle.std.specs.Prelude.{◌≡◌, ◌⊎◌, ℕ, List, Option, String, Vec, false, length}
 use Rattle.std.specs.String.{string_bytes}
 use Rattle.std.specs.declared.alloc.Global.{Global}
 use Rattle.tp_layout.specs.declared.parts.ChangeParts.{ChangeParts}
@@ -11,7 +11,7 @@ use Rattle.tp_document.specs.declared.error.DocError.TheVariants as doc
 use Rattle.tp_peer.specs.declared.editing_at.EditAtError.TheVariants as at
 use Rattle.tp_peer.specs.declared.error.PeerError.TheVariants as peer
 use Rattle.tp_peer.specs.PeerState.{PeerState}
-use Rattle.tp_window.specs.Requests.{RefusesEditAs, RefusesMeaning, SpellsNoHash, MeansHeads}
+use Rattle.tp_window.specs.Requests.{MeansHeads, RefusesEditAs, RefusesMeaning, RefusesResuming}
 use Rattle.tp_window.specs.declared.error.WindowError.{WindowError}
 use Rattle.tp_window.specs.declared.error.WindowError.TheVariants.{BadRequest, Edit, Forgotten, OutOfMemory}
 use Rattle.tp_window.specs.declared.memory.Memory.{Memory}
@@ -23,12 +23,12 @@ use Rattle.tp_window.specs.declared.window.Window.{Window}
 abbrev pub SpellsNoActor : List ℕ → Type 0
 SpellsNoActor text = (actor : Actor) → length actor.0 ≡ 16 → IsHexOf text actor.0 → ⊥
 
--- Why what an actor made isn't answered: some text spells none, or there is no memory.
-abbrev pub RefusesMadeBy : List ℕ → List (String Global) → WindowError → Type 0
-RefusesMadeBy actor heads BadRequest = Any SpellsNoHash heads ⊎ SpellsNoActor actor
-RefusesMadeBy actor heads Forgotten = ⊥
-RefusesMadeBy actor heads OutOfMemory = Unit {0}
-RefusesMadeBy actor heads (Edit e) = ⊥
+-- Why a page isn't resumed: at no heads, or its text of an actor spells none.
+abbrev pub RefusesMadeBy : List ℕ → Option (Vec (String Global) Global) → Option ℕ → List ChangeParts → WindowError → Type 0
+RefusesMadeBy actor heads count C BadRequest = RefusesResuming C heads count BadRequest ⊎ SpellsNoActor actor
+RefusesMadeBy actor heads count C Forgotten = RefusesResuming C heads count Forgotten
+RefusesMadeBy actor heads count C OutOfMemory = Unit {0}
+RefusesMadeBy actor heads count C (Edit e) = ⊥
 
 -- Why what is new isn't answered: the request means no heads, one of those that it means is no change's, or there is no
 -- memory.
@@ -52,7 +52,7 @@ RefusesEffectOf hash C (Edit e) =
 -- Why a window's request of a peer p is refused, and what that leaves.
 abbrev pub RefusesRequest : Window → Request → ℕ → PeerState → WindowError → PeerState → Type 0
 RefusesRequest window request.Open time p e p' = (p' ≡ p) × (e ≡ Edit (at.Peer peer.OutOfMemory))
-RefusesRequest window (request.Resume who heads) time p e p' = (p' ≡ p) × RefusesMadeBy (string_bytes who) heads.items e
+RefusesRequest window (request.Resume who heads count) time p e p' = (p' ≡ p) × RefusesMadeBy (string_bytes who) heads count p.applied e
 RefusesRequest window (request.Edit edit) time p e p' = RefusesEditAs window edit time p e p'
 RefusesRequest window (request.Look heads on) time p e p' = (p' ≡ p) × RefusesNewsSince window.memory heads on p.applied e
 RefusesRequest window (request.Changes from most) time p e p' = ⊥

@@ -1,11 +1,13 @@
 -- What a page's request says, and what it does.
-use Rattle.std.specs.Prelude.{◌≡◌, ◌⊎◌, ℕ, List, [], String, Option, None, Some, Any, Result, Err, Vec, length}
+use Rattle.std.specs.Prelude.{◌≡◌, ◌⊎◌, ℕ, ◌<◌, ◌≤◌, List, [], String, Option, None, Some, Any, Result, Err, Vec, length, take}
 use Rattle.std.specs.List.{AllZip}
 use Rattle.std.specs.Str.{chars}
 use Rattle.std.specs.String.{string_bytes}
 use Rattle.std.specs.declared.alloc.Global.{Global}
 use Rattle.tp_document.specs.Editing.{asking}
 use Rattle.tp_edit.specs.declared.splice.Splice.{Splice}
+use Rattle.tp_history.specs.Heads.{heads as heads_of}
+use Rattle.tp_layout.specs.declared.parts.ChangeParts.{ChangeParts}
 use Rattle.tp_opid.specs.HexText.{IsHexOf}
 use Rattle.tp_opid.specs.declared.actor.Actor.{Actor}
 use Rattle.tp_opid.specs.declared.hash.Hash.{Hash}
@@ -64,6 +66,32 @@ RefusesMeaning memory (Some texts) on Forgotten = ⊥
 RefusesMeaning memory heads on OutOfMemory = Unit {0}
 RefusesMeaning memory heads on (refusal.Edit e) = ⊥
 
+-- The heads of the first changes of C, as many as said: those of a document when it had no more.
+pub record AreFirstHeads (C : List ChangeParts) (count : ℕ) (H : List Hash) : Type 0 where
+  pub there : count ≤ length C
+  pub heads : H ≡ heads_of (take count C)
+
+-- The heads that a page had which is resumed: those that its texts spell, or those of the first changes, as many as it says. It
+-- says one of these, and not both.
+abbrev pub ResumesHeads : List ChangeParts → Option (Vec (String Global) Global) → Option ℕ → List Hash → Type 0
+ResumesHeads C (Some texts) None H = SpellHashes texts.items H
+ResumesHeads C None (Some count) H = AreFirstHeads C count H
+ResumesHeads C (Some texts) (Some count) H = ⊥
+ResumesHeads C None None H = ⊥
+
+-- Why a page is resumed at no heads: it says neither or both, some text spells no hash, there are fewer changes, or there is no
+-- memory.
+abbrev pub RefusesResuming : List ChangeParts → Option (Vec (String Global) Global) → Option ℕ → WindowError → Type 0
+RefusesResuming C (Some texts) None BadRequest = Any SpellsNoHash texts.items
+RefusesResuming C None (Some count) BadRequest = ⊥
+RefusesResuming C (Some texts) (Some count) BadRequest = Unit {0}
+RefusesResuming C None None BadRequest = Unit {0}
+RefusesResuming C None (Some count) Forgotten = length C < count
+RefusesResuming C None None Forgotten = ⊥
+RefusesResuming C (Some texts) count Forgotten = ⊥
+RefusesResuming C heads count OutOfMemory = Unit {0}
+RefusesResuming C heads count (refusal.Edit e) = ⊥
+
 -- The splice of an edit is the typed one.
 pub record IsTypedSplice (typed : TypedSplice) (splice : Splice) : Type 0 where
   pub at : splice.at ≡ typed.at
@@ -97,7 +125,7 @@ MayEditAs window edit time p p' = (p' ≡ p) ⊎ ((answer : Result (Option Hash)
 abbrev pub DoesRequest : Window → Request → ℕ → PeerState → PeerState → Type 0
 DoesRequest window (Edit edit) time p p' = MayEditAs window edit time p p'
 DoesRequest window Open time p p' = p' ≡ p
-DoesRequest window (Resume who heads) time p p' = p' ≡ p
+DoesRequest window (Resume who heads count) time p p' = p' ≡ p
 DoesRequest window (Look heads on) time p p' = p' ≡ p
 DoesRequest window (Changes from most) time p p' = p' ≡ p
 DoesRequest window (Change hash) time p p' = p' ≡ p

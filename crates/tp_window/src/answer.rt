@@ -56,6 +56,8 @@ pub enum Answer<'a> {
         actor: String,
         /// The number of these heads.
         number: u64,
+        /// How many changes there are.
+        count: usize,
         /// The heads at which this is the text.
         heads: Vec<String>,
         /// The text.
@@ -65,6 +67,8 @@ pub enum Answer<'a> {
     Resumed {
         /// Under whom the page edits from now on.
         actor: String,
+        /// The number of the heads that the page has.
+        number: u64,
         /// The hash of the change, if there is one.
         made: Option<String>,
     },
@@ -74,6 +78,8 @@ pub enum Answer<'a> {
         made: Option<String>,
         /// The number of these heads.
         number: u64,
+        /// How many changes there are.
+        count: usize,
         /// The heads now.
         heads: Vec<String>,
         /// What leads there from the page's text with the edit.
@@ -83,6 +89,8 @@ pub enum Answer<'a> {
     Looked {
         /// The number of these heads.
         number: u64,
+        /// How many changes there are.
+        count: usize,
         /// The heads now.
         heads: Vec<String>,
         /// What leads there from the page's text.

@@ -24,7 +24,7 @@ use tp_peer::{Peer, PeerSequence};
 pub struct Said {
     /// The answer.
     pub text: String,
-    /// The heads that the answer has, where it has any: those to which its number belongs.
+    /// The heads to which the answer's number belongs, where it has one.
     pub heads: Option<Vec<Hash>>,
     /// Why the request is refused, where it is: the answer says so, and the window is to be closed.
     pub refusal: Option<WindowError>,
@@ -67,12 +67,11 @@ impl Window {
     {
         match request {
             Request::Open {} => Ok(Outcome::Text(peer.document().text()?)),
-            Request::Resume { actor, heads } => Ok(Outcome::Made(made_by(
-                alloc,
-                peer.document(),
+            Request::Resume {
                 actor,
                 heads,
-            )?)),
+                count,
+            } => Ok(Outcome::Made(made_by(alloc, peer.document(), actor, heads, *count)?)),
             Request::Edit(edit) => Ok(Outcome::Edit(self.edit_typed(alloc, peer, edit, time)?)),
             Request::Look { heads, on } => Ok(Outcome::News(news_since(
                 alloc,
@@ -103,6 +102,7 @@ impl Window {
             document: document.id().to_text(alloc)?,
             actor: self.actor().to_text(alloc)?,
             number: self.memory().next_number(),
+            count: document.changes().len(),
             heads: texts_of(alloc, document.heads())?,
             text: text.as_str(),
         })
@@ -120,18 +120,21 @@ impl Window {
     {
         match outcome {
             Outcome::Text(text) => self.answer_of_text(alloc, document, text),
-            Outcome::Made(made) => Ok(Answer::Resumed {
+            Outcome::Made(resumed) => Ok(Answer::Resumed {
                 actor: self.actor().to_text(alloc)?,
-                made: text_if_any(alloc, made)?,
+                number: self.memory().next_number(),
+                made: text_if_any(alloc, &resumed.made)?,
             }),
             Outcome::Edit(edited) => Ok(Answer::Edited {
                 made: text_if_any(alloc, &edited.made)?,
                 number: self.memory().next_number(),
+                count: document.changes().len(),
                 heads: texts_of(alloc, &edited.news.heads)?,
                 splices: shown_of(alloc, &edited.news.differences)?,
             }),
             Outcome::News(news) => Ok(Answer::Looked {
                 number: self.memory().next_number(),
+                count: document.changes().len(),
                 heads: texts_of(alloc, &news.heads)?,
                 splices: shown_of(alloc, &news.differences)?,
             }),
@@ -149,7 +152,7 @@ impl Window {
         }
     }
 
-    // Reads what is asked, does it, and writes what it comes to. With the text are the heads that it has, if any.
+    // Reads what is asked, does it, and writes what it comes to. With the text are the heads of its number, if any.
     fn answer_text<J: Journal>(
         &self,
         alloc: Global,
@@ -168,8 +171,9 @@ impl Window {
     }
 
     /// Answers a request of the page, which is a JSON text; its edits are made at the time, in seconds after 1970 began. A
-    /// refusal is an answer too, and the last one. Where the answer has heads, these are given to [`remember`](Window::remember)
-    /// before it is sent: it has the number under which they are kept then. The only error is that there is no memory for an answer.
+    /// refusal is an answer too, and the last one. Where the answer has a number, its heads are given to
+    /// [`remember`](Window::remember) before it is sent, and are kept under it then. The only error is that there is no memory for an
+    /// answer.
     pub fn answer<J: Journal>(
         &self,
         alloc: Global,

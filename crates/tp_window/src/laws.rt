@@ -1,17 +1,19 @@
 //! Laws of pages: public functions whose contract is the law and whose body is empty.
 
-ghost use Rattle.std.specs.Prelude.{◌++◌, ◌↔◌, ℕ, List, None, Some, String, Vec};
+ghost use Rattle.std.specs.Prelude.{◌++◌, ◌↔◌, ℕ, List, None, Some, String, Vec, length};
 ghost use Rattle.std.specs.declared.alloc.Global.{Global};
 ghost use Rattle.tp_layout.specs.declared.parts.ChangeParts.{ChangeParts};
+ghost use Rattle.tp_history.specs.Heads.{heads as heads_of};
 ghost use Rattle.tp_history.specs.Sound.{Sound};
 ghost use Rattle.tp_opid.specs.declared.hash.Hash.{Hash as HashOf};
 ghost use Rattle.tp_peer.specs.PeerState.{PeerState};
 ghost use Rattle.tp_window.specs.Numbers.{HadHeads};
-ghost use Rattle.tp_window.specs.Outcomes.{IsNewsSince, IsTypedEdit};
+ghost use Rattle.tp_window.specs.Outcomes.{IsMadeBy, IsNewsSince, IsTypedEdit};
 ghost use Rattle.tp_window.specs.Requests.{MayEditAs, SpellHashes, by_number, by_texts};
 ghost use Rattle.tp_window.specs.Windows.{IsNews, Page, ShowsText, with_news};
 ghost use Rattle.tp_window.specs.declared.memory.Memory.{Memory};
 ghost use Rattle.tp_window.specs.declared.news.News.{News as NewsOf};
+ghost use Rattle.tp_window.specs.declared.outcome.Resumed.{Resumed};
 ghost use Rattle.tp_window.specs.declared.request.TypedSplice.{TypedSplice};
 ghost use Rattle.tp_window.specs.declared.window.Edited.{Edited};
 ghost use Rattle.tp_window.specs.declared.window.Window.{Window};
@@ -41,4 +43,12 @@ pub fn a_number_means_its_heads()
         → HadHeads memory number H → SpellHashes texts.items H
         → (C : List ChangeParts) (news : NewsOf)
         → IsNewsSince memory None (Some number) C news ↔ IsNewsSince memory (Some texts) None C news }
+{}
+
+/// A page that resumes by how many changes an answer counted is answered what one is that lists the heads of that answer, whatever
+/// entered meanwhile.
+pub fn a_count_means_its_heads()
+    ensures { (C D : List ChangeParts) (texts : Vec (String Global) Global) → SpellHashes texts.items (heads_of C)
+        → (who : List ℕ) (resumed : Resumed)
+        → IsMadeBy who None (Some (length C)) (C ++ D) resumed ↔ IsMadeBy who (Some texts) None (C ++ D) resumed }
 {}

@@ -10,19 +10,21 @@
 mod answer;
 mod answering;
 mod error;
+mod first;
 mod laws;
 mod memory;
 mod news;
 mod outcome;
 mod reading;
 mod request;
+mod resuming;
 mod showing;
 mod window;
 mod writing;
 
 pub use answering::Said;
 pub use error::WindowError;
-pub use laws::{a_number_means_its_heads, a_page_follows};
+pub use laws::{a_count_means_its_heads, a_number_means_its_heads, a_page_follows};
 pub use news::News;
 pub use showing::made_on;
 pub use window::{Edited, Window};

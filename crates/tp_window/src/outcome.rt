@@ -8,7 +8,8 @@ ghost use Rattle.tp_window.specs.Refusing.{RefusesEffectOf, RefusesMadeBy, Refus
 use crate::error::WindowError;
 use crate::memory::Memory;
 use crate::news::News;
-use crate::reading::{hashes_of, heads_meant};
+use crate::reading::heads_meant;
+use crate::resuming::heads_resumed;
 use crate::showing::made_on;
 use crate::window::Edited;
 use std::alloc::Global;
@@ -16,13 +17,22 @@ use tp_document::{Document, Effect};
 use tp_opid::{Actor, Hash};
 use tp_peer::PeerSequence;
 
+/// A page that was cut off, as it goes on.
+#[derive(Drop)]
+pub struct Resumed {
+    /// The heads that it had.
+    pub heads: Vec<Hash>,
+    /// The hash of the change that its actor made on them, if it made one.
+    pub made: Option<Hash>,
+}
+
 /// What a request comes to.
 #[derive(Drop)]
 pub enum Outcome {
     /// The text now.
     Text(String),
-    /// The hash of the change that an actor made on some heads, if it made one.
-    Made(Option<Hash>),
+    /// What an actor made on some heads.
+    Made(Resumed),
     /// An edit, once it is kept.
     Edit(Edited),
     /// What is new.
@@ -38,19 +48,21 @@ pub enum Outcome {
     Effect(Effect),
 }
 
-/// The hash of the change that the actor made on the heads, if it made one, where these are the digits of the texts.
+/// What the actor made on the heads that are said so, where the text is the actor's digits.
 pub(crate) fn made_by(
     alloc: Global,
     document: &Document<PeerSequence>,
     actor: &str,
-    heads: &[String],
-) -> Result<Option<Hash>, WindowError>
-    ensures ok { IfOk result (IsMadeBy actor.now heads.now document.now.applied) }
-    ensures err { IfErr result (RefusesMadeBy actor.now heads.now) }
+    heads: &Option<Vec<String>>,
+    count: Option<u64>,
+) -> Result<Resumed, WindowError>
+    ensures ok { IfOk result (IsMadeBy actor.now heads.now count document.now.applied) }
+    ensures err { IfErr result (RefusesMadeBy actor.now heads.now count document.now.applied) }
 {
-    let heads = hashes_of(alloc, heads)?;
+    let heads = heads_resumed(alloc, document, heads, count)?;
     let actor = Actor::from_text(actor)?;
-    Ok(made_on(document, &actor, &heads))
+    let made = made_on(document, &actor, &heads);
+    Ok(Resumed { heads, made })
 }
 
 /// What is new since the text at the heads that are said so.
@@ -86,7 +98,7 @@ pub(crate) fn effect_in(
     }
 }
 
-/// The heads that the answer has which shows the outcome, where it has any. The only refusal is `OutOfMemory`.
+/// The heads that have the number of the answer which shows the outcome, where it has one. The only refusal is `OutOfMemory`.
 pub(crate) fn heads_shown(
     alloc: Global,
     document: &Document<PeerSequence>,
@@ -97,6 +109,7 @@ pub(crate) fn heads_shown(
 {
     match outcome {
         Outcome::Text(_) => Ok(Some(Vec::from_slice(alloc, document.heads())?)),
+        Outcome::Made(resumed) => Ok(Some(resumed.heads)),
         Outcome::Edit(edited) => Ok(Some(edited.news.heads)),
         Outcome::News(news) => Ok(Some(news.heads)),
         _ => Ok(None),

@@ -48,12 +48,15 @@ pub struct TypedEdit {
 pub enum Request {
     /// The text now, for a page that begins.
     Open {},
-    /// Whether the change was kept that this actor made on these heads, for a page that was cut off.
+    /// Whether the change was kept that this actor made on some heads, which are said by either of the last two, for a page that
+    /// was cut off.
     Resume {
         /// Under whom the page edited before.
         actor: String,
         /// At which heads its text was.
-        heads: Vec<String>,
+        heads: Option<Vec<String>>,
+        /// How many changes the answer counted that had these heads.
+        count: Option<u64>,
     },
     /// An edit of the text at some heads.
     Edit(TypedEdit),

@@ -3,4 +3,5 @@ use Rattle.tp_command_line.proofs.definition.load_command.Goals as goal
 
 pub returns : goal.returns
 returns c =
-    IfOk-map c.arg.result _ _ (λ r added. argument_added _ _ _ c.journal.result r c.in_ok-value_command.ensures c.journal.ensures.rule c.journal.ensures.local added) c.arg.ensures
+    let with1 = argument_added _ _ _ c.journal.result c.in_ok-arg.field-0 c.in_ok-value_command.ensures c.journal.ensures.rule c.journal.ensures.local c.in_ok-arg.ensures in
+    IfOk-map c.arg-2.result _ _ (λ r added. argument_added _ _ _ c.wait.result r with1 c.wait.ensures.rule c.wait.ensures.local added) c.arg-2.ensures

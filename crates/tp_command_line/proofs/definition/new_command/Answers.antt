@@ -3,4 +3,5 @@ use Rattle.tp_command_line.proofs.definition.new_command.Goals as goal
 
 pub returns : goal.returns
 returns c =
-    IfOk-map c.arg.result _ _ (λ r added. argument_added _ _ _ c.key.result r c.in_ok-file_command.ensures c.key.ensures.rule c.key.ensures.local added) c.arg.ensures
+    let waits = argument_added _ _ _ c.wait.result c.in_ok-arg.field-0 c.in_ok-file_command.ensures c.wait.ensures.rule c.wait.ensures.local c.in_ok-arg.ensures in
+    IfOk-map c.arg-2.result _ _ (λ r added. argument_added _ _ _ c.key.result r waits c.key.ensures.rule c.key.ensures.local added) c.arg-2.ensures

@@ -1,6 +1,7 @@
 use Rattle.std.proofs.Common.{◌≡◌, ◌≤◌, ℕ, List, None, Option}
 use Rattle.tp_report.specs.Telling.{GrowsBy}
-use Rattle.tp_online.specs.Sessions.{ReportsEach, IsFollowed}
+use Rattle.std.specs.Prelude.{IfSome}
+use Rattle.tp_online.specs.Sessions.{IsIdle, ReportsEach, IsFollowed}
 use Rattle.tp_online.proofs.following.follow_file.Given as goal
 
 -- a number of sessions was held so far, and what is printed of them was written
@@ -9,4 +10,5 @@ invariant-loop-turn g l =
     (l.held ≤ l.sessions)
     × (l.cut ≡ None)
     × ((cuts : List (Option ℕ)) × ReportsEach (g.R.Folders.saw l.rt) l.file cuts (g.E.Write.contents l.fn.err) (g.E.Write.contents l.err))
+    × IfSome l.between.peer (IsIdle (g.R.Folders.saw l.rt) l.file l.key)
     × GrowsBy (IsFollowed (g.R.Folders.saw l.rt) l.file l.key l.held) (g.W.Write.contents l.fn.out) (g.W.Write.contents l.out)

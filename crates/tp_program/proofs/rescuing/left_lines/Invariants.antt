@@ -1,9 +1,10 @@
-use Rattle.std.proofs.Common.{◌≡◌, take}
-use Rattle.std.specs.List.{flat_map}
+use Rattle.std.proofs.Common.{◌≡◌, List, [], ◌++◌, drop}
 use Rattle.std.specs.String.{string_bytes}
-use Rattle.tp_program.specs.Rescuing.{left_line}
+use Rattle.tp_layout.specs.declared.parts.ChangeParts.{ChangeParts}
+use Rattle.tp_program.specs.Rescuing.{Names, left_lines}
 use Rattle.tp_program.proofs.rescuing.left_lines.Given as goal
 
--- the lines so far are those of the changes so far
+-- others were left out before, and the lines so far, and those of the changes that are left, are all lines
 abbrev pub invariant-loop-change : goal.invariant-loop-change
-invariant-loop-change l = string_bytes l.lines ≡ flat_map (left_line l.graph.applied) (take l.change-index l.changes)
+invariant-loop-change l = (before : List ChangeParts) × Names l.named.keys before
+    × (string_bytes l.lines ++ left_lines l.graph.applied before (drop l.change-index l.changes) ≡ left_lines l.graph.applied [] l.changes)

@@ -11,7 +11,7 @@ returns-clause-line g c =
     record { unused = c.in_ok-journal.ensures.unused; begun = c.in_ok-journal.ensures.begun } in (
       c.in_ok-make_journal.field-0.file.content,
       c.in_ok-journal.journal.file.content,
-      c.in_ok-make_journal.ensures,
+      c.in_ok-make_journal.ensures.taken,
       record {
         generator = c.in_ok-generator.generator;
         id = id;
