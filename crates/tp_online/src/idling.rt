@@ -111,12 +111,12 @@ pub(crate) fn meet_idle<'a, R: Disk + Net + AllocGlobal>(
         return Ok(None);
     };
     match hold_alone_on(rt.alloc(), stream, how.patience, Role::Client, &mut peer) {
-        Ok(0) => {
-            between.peer = Some(peer);
-            Ok(Some(0))
-        }
         Ok(applied) => {
-            between.stamp = peer.stop().leave();
+            if applied == 0 {
+                between.peer = Some(peer);
+            } else {
+                between.stamp = peer.stop().leave();
+            }
             Ok(Some(applied))
         }
         Err(error) => {
