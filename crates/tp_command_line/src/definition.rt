@@ -120,7 +120,7 @@ fn journal_commands<'a>(alloc: Global) -> Result<Command<'a>, AllocError>
         file_command(
             alloc,
             "check",
-            "Says how much of a journal is kept, and what stands behind that: a fault with its place, and whole changes",
+            "Says how much of a journal is kept, and what follows that: a fault with its place, and whole changes",
             "Example:\n  textpeer check notes.journal",
         ),
     )
@@ -298,7 +298,7 @@ fn patience<'a>(alloc: Global) -> Arg<'a>
         alloc,
         "patience",
         "SECONDS",
-        "how long the other side may say nothing, in seconds to 86400; then its session ends. For ever if 0",
+        "how many seconds the other side may say nothing before its session ends, up to 86400; for ever if 0",
     )
     .value_parser(ValueParser::unsigned(0, 86400))
     .default_value("30")
@@ -313,7 +313,7 @@ fn wait<'a>(alloc: Global) -> Arg<'a>
         alloc,
         "wait",
         "SECONDS",
-        "how long FILE's lock is waited for where another program has it, in seconds to 86400. Not at all if 0",
+        "how many seconds to wait for FILE's lock where another program has it, up to 86400; not at all if 0",
     )
     .value_parser(ValueParser::unsigned(0, 86400))
     .default_value("5")
@@ -328,7 +328,7 @@ fn follow<'a>(alloc: Global) -> Arg<'a>
         alloc,
         "follow",
         "SECONDS",
-        "goes on with one session after another, so many seconds between two, 1 to 86400; 5 if none are given",
+        "goes on with one session after another, SECONDS apart, 1 to 86400; 5 if none are given",
     )
     .num_args(0..=1)
     .value_parser(ValueParser::unsigned(1, 86400))
@@ -591,7 +591,7 @@ fn cursor_command<'a>(alloc: Global) -> Result<Command<'a>, AllocError>
     file_command(
         alloc,
         "cursor",
-        "Prints where a character of the text at earlier heads stands now",
+        "Prints where a character of the text at earlier heads is now",
         "Example:\n  textpeer cursor notes.journal 3 $(textpeer heads notes.journal)",
     )?
     .arg(position(alloc))?
