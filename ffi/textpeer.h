@@ -24,7 +24,7 @@ typedef struct tp_handle {
 } tp_handle;
 
 /* The version of this header, as in pkg-config's textpeer.pc. */
-#define TP_VERSION "0.1"
+#define TP_VERSION "0.1.0"
 
 static inline const char *tp_version(void)
 {

@@ -30,7 +30,7 @@ from .refusals import Forked
 from .sessions import Session
 from .shared import SharedEditor
 
-__version__ = "0.1"
+__version__ = "0.1.0"
 
 __all__ = ["Change", "Cursor", "Editor", "Forked", "Link", "Session", "SharedEditor", "Splice", "__version__"]
 __all__ += refusals.__all__
