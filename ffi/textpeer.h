@@ -26,6 +26,9 @@ typedef struct tp_handle {
 /* The version of this header, as in pkg-config's textpeer.pc. */
 #define TP_VERSION "0.1.0"
 
+/* The short hash of the commit that this is a release of; it is empty where it is none. */
+#define TP_COMMIT ""
+
 static inline const char *tp_version(void)
 {
     return TP_VERSION;

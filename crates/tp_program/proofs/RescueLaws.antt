@@ -93,8 +93,8 @@ had_of_all (Ok x) made said lacks own as_own id same kept as_kept all changes mo
       h.2 ∙ ap (λ (i : DocId). journal i h.0) is_id,
       h.3 ∙ ap (λ (l : List ChangeParts). option_map Refused (first_left h.0 l)) own_changes,
       h.4 ∙ ap (λ (o : DocId). rescue_text o same h.0 as_from to as_records all) is_own ∙ ap (λ (i : DocId). rescue_text own i h.0 as_from to as_records all) is_id
-      ∙ ap (λ (at : ℕ). rescue_text own id h.0 at to as_records all) is_from ∙ ap (λ (rs : List WholeRecord). rescue_text own id h.0 from to rs all) is_records
-      ∙ ap (λ (l : List ChangeParts). rescue_text own id h.0 from to records l) is_all,
+          ∙ ap (λ (at : ℕ). rescue_text own id h.0 at to as_records all) is_from ∙ ap (λ (rs : List WholeRecord). rescue_text own id h.0 from to rs all) is_records
+          ∙ ap (λ (l : List ChangeParts). rescue_text own id h.0 from to records l) is_all,
     )
 had_of_all (Err e) made said lacks own as_own id same kept as_kept all changes more from as_from to count records as_records is_own is_id is_kept is_all is_from is_count is_records h = tt
 

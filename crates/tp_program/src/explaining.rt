@@ -9,6 +9,7 @@ ghost use Rattle.tp_report.specs.declared.error.JobError.{JobError as JobRefusal
 ghost use Rattle.tp_report.specs.Telling.{GrowsPart, IsLineOf};
 ghost use Rattle.tp_program.specs.Words.{IsMisuse, IsRequest, RefusesHelp};
 
+use clap::error::ErrorKind as Cause;
 use std::alloc::{AllocError, Global};
 use std::fmt::Display;
 use std::io;
@@ -45,10 +46,12 @@ impl<R: Eprint> Print for Errors<'_, R> {
 }
 
 /// Prints why the words ask for no job, and returns the exit status: 0 where help or the version was asked for, 1 where that
-/// could not be written or a value wasn't read, and 2 where the words are at fault.
+/// could not be written or a value wasn't read, and 2 where the words are at fault. The version names the commit that the
+/// program is a release of; it is empty where it is none.
 pub fn explain<W: Write, E: Write>(
     alloc: Global,
     fault: &LineError,
+    commit: &str,
     explains: bool,
     out: &mut W,
     err: &mut E,
@@ -66,9 +69,15 @@ pub fn explain<W: Write, E: Write>(
         → IsMisuse fault.now × Keeps (W.contents out.old) (W.contents out.new) }
 {
     match fault {
-        LineError::Request(_) => exit_status(alloc, put_fault(alloc, fault, out), err),
+        LineError::Request(asked) => {
+            let commit = match asked.kind() {
+                Cause::DisplayVersion => commit,
+                _ => "",
+            };
+            exit_status(alloc, put_fault(alloc, fault, commit, out), err)
+        }
         LineError::Fault(_) => {
-            let _ = put_fault(alloc, fault, err);
+            let _ = put_fault(alloc, fault, "", err);
             MISUSED
         }
         LineError::Value(ValueError::NotOneText) => {
@@ -104,11 +113,28 @@ fn with_right_tip(alloc: Global, text: String) -> Result<String, AllocError> {
     }
 }
 
-// Prints the parser's text.
-fn put_fault<W: Write>(alloc: Global, fault: &LineError, out: &mut W) -> Result<(), JobError>
+// The text's first line with the commit after it, where there is one.
+fn with_commit(alloc: Global, text: String, commit: &str) -> Result<String, AllocError> {
+    if commit.is_empty() {
+        return Ok(text);
+    }
+    match text.split_once('\n') {
+        Some((version, _)) => format!(in alloc; "{version} ({commit})\n"),
+        None => Ok(text),
+    }
+}
+
+// Prints the parser's text, with the commit, where there is one.
+fn put_fault<W: Write>(
+    alloc: Global,
+    fault: &LineError,
+    commit: &str,
+    out: &mut W,
+) -> Result<(), JobError>
     ensures { IfErr result (λ e. RefusesHelp e (W.contents out.old) (W.contents out.new)) }
 {
     let text = with_right_tip(alloc, format!(in alloc; "{fault}")?)?;
+    let text = with_commit(alloc, text, commit)?;
     match write_out(out, text.as_str().as_bytes()) {
         Ok(()) => Ok(()),
         Err(error) => Err(output_refusal(&error)),

@@ -42,7 +42,7 @@ pub struct Terminals {
 /// read, as those that are no UTF-8, are refused as `textpeer: Io`.
 pub fn run<
     R: Env + Disk + Net + Threads + Wait + Clock + Input + Print + Eprint + AllocGlobal + Sync,
->(rt: &R, terminals: Terminals) -> u8
+>(rt: &R, commit: &str, terminals: Terminals) -> u8
 where
     R::File: Send,
     R::Listener: Sync,
@@ -50,7 +50,7 @@ where
     ensures { result ≤ MISUSED }
 {
     match own_words(rt) {
-        Ok(words) => run_words(rt, words.as_slice(), terminals),
+        Ok(words) => run_words(rt, words.as_slice(), commit, terminals),
         Err(error) => exit_status(
             rt.alloc(),
             Err(JobError::Command(CommandError::from(error))),
@@ -76,11 +76,12 @@ fn own_words<R: Env + AllocGlobal>(rt: &R) -> io::Result<Vec<String>> {
 /// one where something was made whose line couldn't be printed; 2 where the words are at fault, with the parser's text on the
 /// standard error, or the line of an edit with not one text. `--explain` and `help` are read before, as [`words_asked`] says.
 /// Where a stream is a terminal, control characters other than newline and tab are shown there as Rust escapes them, but in the
-/// frames of `session`; where the standard error is one, and with `--explain`, refusals are explained.
+/// frames of `session`; where the standard error is one, and with `--explain`, refusals are explained. `--version` prints the
+/// commit that the program is a release of after its number; it is empty where it is none.
 pub fn run_words<
     R: Disk + Net + Threads + Wait + Clock + Input + Print + Eprint + AllocGlobal + Sync,
     S: AsStr,
->(rt: &R, words: &[S], terminals: Terminals) -> u8
+>(rt: &R, words: &[S], commit: &str, terminals: Terminals) -> u8
 where
     R::File: Send,
     R::Listener: Sync,
@@ -98,6 +99,7 @@ where
             run_words_on(
                 rt,
                 &asked.words,
+                commit,
                 asked.explains || terminals.errors,
                 &mut rt.reader(),
                 &mut Shown::new(rt.alloc(), io::writer(rt), is_shown),
@@ -116,7 +118,7 @@ pub fn run_words_on<
     I: Read,
     W: Write,
     E: Write,
->(rt: &R, words: &[S], explains: bool, input: &mut I, out: &mut W, err: &mut E) -> u8
+>(rt: &R, words: &[S], commit: &str, explains: bool, input: &mut I, out: &mut W, err: &mut E) -> u8
 where
     R::File: Send,
     R::Listener: Sync,
@@ -143,7 +145,7 @@ where
         Ok(Wanted { job, wait }) => {
             run_job(rt, job, wait.unwrap_or(0), explains, input, out, err)
         }
-        Err(fault) => explain(rt.alloc(), &fault, explains, out, err),
+        Err(fault) => explain(rt.alloc(), &fault, commit, explains, out, err),
     }
 }
 

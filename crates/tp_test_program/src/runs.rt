@@ -99,7 +99,14 @@ where
                 Err(error) => refused_with(rt, error, explains, &subject, cut, &mut err),
             }
         }
-        Err(fault) => explain(rt.alloc(), &fault, explains, &mut io::writer(rt), &mut err),
+        Err(fault) => explain(
+            rt.alloc(),
+            &fault,
+            "",
+            explains,
+            &mut io::writer(rt),
+            &mut err,
+        ),
     }
 }
 

@@ -58,7 +58,15 @@ where
 {
     let mut out = Vec::new(rt.alloc());
     let mut err = Vec::new(rt.alloc());
-    let status = run_words_on(rt, words, false, &mut b"".as_slice(), &mut out, &mut err);
+    let status = run_words_on(
+        rt,
+        words,
+        "",
+        false,
+        &mut b"".as_slice(),
+        &mut out,
+        &mut err,
+    );
     Ran { status, out, err }
 }
 
@@ -75,7 +83,7 @@ where
     let mut input = stream;
     let mut output = input.try_clone().ok()?;
     let mut err = Vec::new(rt.alloc());
-    let status = run_words_on(rt, words, false, &mut input, &mut output, &mut err);
+    let status = run_words_on(rt, words, "", false, &mut input, &mut output, &mut err);
     Some(Ran {
         status,
         out: Vec::new(rt.alloc()),

@@ -31,6 +31,8 @@ from .sessions import Session
 from .shared import SharedEditor
 
 __version__ = "0.1.0"
+# The short hash of the commit that this is a release of; it is empty where it is none.
+__commit__ = ""
 
-__all__ = ["Change", "Cursor", "Editor", "Forked", "Link", "Session", "SharedEditor", "Splice", "__version__"]
+__all__ = ["Change", "Cursor", "Editor", "Forked", "Link", "Session", "SharedEditor", "Splice", "__commit__", "__version__"]
 __all__ += refusals.__all__

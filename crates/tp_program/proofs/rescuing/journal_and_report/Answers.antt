@@ -11,6 +11,6 @@ returns c = (
   c.in_ok-made.ensures.journal,
   c.in_ok-lacking.ensures,
   c.in_ok-text.ensures
-  ∙ ap (λ (id : DocId). rescue_text c.args.damaged.own id c.journal_with-made.new.document.applied c.args.damaged.from c.args.damaged.to c.args.records.now c.args.changes.now)
-  c.journal_with-made.ensures.id,
+      ∙ ap (λ (id : DocId). rescue_text c.args.damaged.own id c.journal_with-made.new.document.applied c.args.damaged.from c.args.damaged.to c.args.records.now c.args.changes.now)
+      c.journal_with-made.ensures.id,
 )
