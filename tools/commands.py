@@ -137,7 +137,7 @@ def read_program():
         if command.about != about:
             sys.exit(f"tools/commands.py: the help says `{about}` of `{name}`, and its own `{command.about}`")
         read.append(command)
-    name, version = said_by("--version").split()
+    name, version = said_by("--version").split()[:2]
     return Program(name, version, text.partition("\n")[0], read, options_of(sections, ""), asking,
                    options_of(sections, "", "Anywhere before --"))
 
