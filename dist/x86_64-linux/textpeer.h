@@ -24,7 +24,10 @@ typedef struct tp_handle {
 } tp_handle;
 
 /* The version of this header, as in pkg-config's textpeer.pc. */
-#define TP_VERSION "0.1"
+#define TP_VERSION "0.1.0"
+
+/* The short hash of the commit that this is a release of; it is empty where it is none. */
+#define TP_COMMIT "9e9da16e"
 
 static inline const char *tp_version(void)
 {
