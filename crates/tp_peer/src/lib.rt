@@ -17,6 +17,7 @@ mod merging;
 mod opening;
 mod peer;
 mod sequence;
+mod settling;
 mod syncing;
 
 pub use actors::fresh_actor;
