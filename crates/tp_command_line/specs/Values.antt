@@ -174,11 +174,11 @@ IsNoPage text = ((addr : SocketAddr) → IsSocketText text addr → ⊥) ⊎ ((a
 
 -- the arguments whose values are numbers
 abbrev pub is_numeric : Text → Bool
-is_numeric id = list_any (λ n. bytes_eq n id) (codes "AT" ∷ codes "at" ∷ codes "del" ∷ codes "time" ∷ codes "sessions" ∷ codes "most" ∷ [])
+is_numeric id = list_any (λ n. bytes_eq n id) (codes "AT" ∷ codes "at" ∷ codes "del" ∷ codes "time" ∷ codes "sessions" ∷ codes "most" ∷ codes "unified" ∷ [])
 
 -- the arguments that are flags
 abbrev pub is_flag : Text → Bool
-is_flag id = list_any (λ n. bytes_eq n id) (codes "client" ∷ codes "verbose" ∷ codes "raw" ∷ codes "pretty" ∷ [])
+is_flag id = list_any (λ n. bytes_eq n id) (codes "client" ∷ codes "verbose" ∷ codes "raw" ∷ codes "pretty" ∷ codes "words" ∷ [])
 
 -- what reads the values of an argument
 abbrev pub parser_named : Text → ValueParser
