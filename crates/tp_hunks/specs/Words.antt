@@ -104,17 +104,17 @@ line_newline l = if has_end l then 10 ∷ [] else []
 
 -- what a line has between marks; nothing, where it has nothing
 abbrev pub marked_text : List ℕ → List ℕ → List ℕ → List ℕ
-marked_text open close t = if length t == 0 then [] else open ++ utf8 t ++ close
+marked_text left right t = if length t == 0 then [] else left ++ utf8 t ++ right
 
 -- the line between marks, and its newline after them
 abbrev pub marked_line : List ℕ → List ℕ → List ℕ → List ℕ
-marked_line open close l = marked_text open close (line_text l) ++ line_newline l
+marked_line left right l = marked_text left right (line_text l) ++ line_newline l
 
 -- Characters that go or come: each line of them between marks. Where they are newlines alone, marks without anything between are
 -- before them.
 abbrev pub marked : List ℕ → List ℕ → List ℕ → List ℕ
-marked open close t =
-    if length t == 0 then [] else if newline_count t == length t then open ++ close ++ utf8 t else flat_map (marked_line open close) (file_lines t)
+marked left right t =
+    if length t == 0 then [] else if newline_count t == length t then left ++ right ++ utf8 t else flat_map (marked_line left right) (file_lines t)
 
 -- what goes and what comes
 abbrev pub replaced : Part → List ℕ

@@ -174,32 +174,32 @@ fn line_text(line: &[char]) -> &[char]
 // Puts characters after the text, between marks, if there are any.
 fn put_marked_text(
     text: &mut String,
-    open: &str,
-    close: &str,
+    left: &str,
+    right: &str,
     part: &[char],
 ) -> Result<(), AllocError>
     ensures { OnOk result (string_bytes text.new
-        ≡ string_bytes text.old ++ marked_text open.now close.now part.now) }
+        ≡ string_bytes text.old ++ marked_text left.now right.now part.now) }
 {
     if part.is_empty() {
         return Ok(());
     }
-    text.push_str(open)?;
+    text.push_str(left)?;
     put_chars(text, part)?;
-    text.push_str(close)
+    text.push_str(right)
 }
 
 // Puts a line after the text, between marks, and its newline after them.
 fn put_marked_line(
     text: &mut String,
-    open: &str,
-    close: &str,
+    left: &str,
+    right: &str,
     line: &[char],
 ) -> Result<(), AllocError>
     ensures { OnOk result (string_bytes text.new
-        ≡ string_bytes text.old ++ marked_line open.now close.now line.now) }
+        ≡ string_bytes text.old ++ marked_line left.now right.now line.now) }
 {
-    put_marked_text(text, open, close, line_text(line))?;
+    put_marked_text(text, left, right, line_text(line))?;
     if ends_in_newline(line) {
         return text.push_str("\n");
     }
@@ -209,15 +209,15 @@ fn put_marked_line(
 // Puts lines after the text, each between marks.
 fn put_marked_lines(
     text: &mut String,
-    open: &str,
-    close: &str,
+    left: &str,
+    right: &str,
     lines: &[&[char]],
 ) -> Result<(), AllocError>
     ensures { OnOk result (string_bytes text.new ≡ string_bytes text.old
-        ++ flat_map (marked_line open.now close.now) (map (λ l. l.now) lines.now)) }
+        ++ flat_map (marked_line left.now right.now) (map (λ l. l.now) lines.now)) }
 {
     for line in lines {
-        put_marked_line(text, open, close, line)?;
+        put_marked_line(text, left, right, line)?;
     }
     Ok(())
 }
@@ -226,23 +226,23 @@ fn put_marked_lines(
 fn put_marked(
     alloc: Global,
     text: &mut String,
-    open: &str,
-    close: &str,
+    left: &str,
+    right: &str,
     part: &[char],
 ) -> Result<(), AllocError>
     ensures { OnOk result (string_bytes text.new
-        ≡ string_bytes text.old ++ marked open.now close.now part.now) }
+        ≡ string_bytes text.old ++ marked left.now right.now part.now) }
 {
     if part.is_empty() {
         return Ok(());
     }
     if newlines(part) == part.len() {
-        text.push_str(open)?;
-        text.push_str(close)?;
+        text.push_str(left)?;
+        text.push_str(right)?;
         return put_chars(text, part);
     }
     let lines = file_lines(alloc, part)?;
-    put_marked_lines(text, open, close, &lines)
+    put_marked_lines(text, left, right, &lines)
 }
 
 // Puts what goes and what comes after the text.
@@ -334,6 +334,13 @@ fn pieces_at<'a, 'b>(pieces: &'b [Piece<'a>], at: usize, len: usize) -> &'b [Pie
     if len < rest.len() { &rest[..len] } else { rest }
 }
 
+// The replacements of a block after its first one.
+fn others_in<'a, 'b>(pieces: &'b [Piece<'a>], block: &WordBlock) -> &'b [Piece<'a>]
+    ensures { map part_of result.now ≡ lines_from block.now.at block.now.len (map part_of pieces.now) }
+{
+    pieces_at(pieces, block.at, block.len)
+}
+
 // The text of a block, with the lines before and after it.
 fn block_words_of(
     alloc: Global,
@@ -347,7 +354,7 @@ fn block_words_of(
     let mut text = String::new(alloc);
     put_chars(&mut text, last_lines(context, block.first.stay))?;
     put_replaced(alloc, &mut text, &block.first)?;
-    put_pieces(alloc, &mut text, pieces_at(pieces, block.at, block.len))?;
+    put_pieces(alloc, &mut text, others_in(pieces, block))?;
     put_chars(&mut text, first_lines(context, block.last.rest))?;
     Ok(text)
 }

@@ -6,4 +6,4 @@ use Rattle.tp_hunks.proofs.words.put_marked_lines.Given as goal
 
 -- the lines so far are after the text
 abbrev pub invariant-loop-line : goal.invariant-loop-line
-invariant-loop-line l = string_bytes l.text ≡ string_bytes l.fn.text ++ flat_map (marked_line l.open l.close) (map (λ x. x.now) (take l.line-index l.lines))
+invariant-loop-line l = string_bytes l.text ≡ string_bytes l.fn.text ++ flat_map (marked_line l.left l.right) (map (λ x. x.now) (take l.line-index l.lines))
