@@ -583,7 +583,7 @@ fn diff_command<'a>(alloc: Global) -> Result<Command<'a>, AllocError>
         alloc,
         "diff",
         "Prints which lines of an earlier text became which of a later one, as what was typed and deleted says",
-        "Examples:\n  textpeer diff notes.journal $(textpeer heads notes.journal)\n  \
+        "Example:\n  textpeer diff notes.journal $(textpeer heads notes.journal)\n  \
          textpeer diff notes.journal $(cat notes.heads) -U 3 | patch notes.txt",
     )?
     .arg(hashes(
