@@ -89,7 +89,6 @@ complete -c textpeer -n '__textpeer_does diff; and test (__textpeer_place) -eq 1
 complete -c textpeer -n '__textpeer_does diff; and test (__textpeer_place) -ge 2' -k -a '(__textpeer_changes)'
 complete -c textpeer -n '__textpeer_does diff; and not __fish_contains_opt to' -l to -x -d 'a head of the later text, once for each; as it is now if left out'
 complete -c textpeer -n '__textpeer_does diff; and not __fish_contains_opt -s U unified' -s U -l unified -x -d 'prints N lines before and after those that differ too, for `patch` with names of the texts'
-complete -c textpeer -n '__textpeer_does diff; and not __fish_contains_opt words' -l words -d 'shows within the lines what was deleted, as [-old-], and what was inserted, as {+new+}'
 complete -c textpeer -n '__textpeer_does diff; and not __fish_contains_opt explain' -l explain -d 'says below a refusal which file it is about and what to do, as always on a terminal'
 complete -c textpeer -n '__textpeer_does diff; and not __fish_contains_opt -s h help' -s h -l help -d 'Print help'
 complete -c textpeer -n __fish_use_subcommand -a status -d 'Prints what a journal has: document, changes, authors, characters, heads, bytes; and who has it open'

@@ -184,9 +184,6 @@ most_sound = single_sound numbers (placed 2 most_rule) refl refl refl
 context_sound : IsSound (placed 2 context_rule)
 context_sound = single_sound numbers (placed 2 context_rule) refl refl refl
 
-words_sound : IsSound (placed 2 (flag_rule (codes "words")))
-words_sound = record { fills = flag_fills (placed 2 (flag_rule (codes "words"))) refl; defaults = refl; reading = refl }
-
 pretty_sound : IsSound (placed 2 (flag_rule (codes "pretty")))
 pretty_sound = record { fills = flag_fills (placed 2 (flag_rule (codes "pretty"))) refl; defaults = refl; reading = refl }
 
@@ -255,7 +252,6 @@ all_sound = assumption (
   since_sound,
   pretty_sound,
   context_sound,
-  words_sound,
   heads_sound 2 false,
   heads_sound 3 true,
   help_sound,

@@ -66,10 +66,10 @@ log_shape = with_rules (codes "log") (file_rule ∷ flag_rule (codes "pretty") �
 abbrev pub graph_shape : Shape
 graph_shape = with_rules (codes "graph") (file_rule ∷ [])
 
--- `diff FILE [HASH ..] [--to HASH ..] [--unified N] [--words]`
+-- `diff FILE [HASH ..] [--to HASH ..] [--unified N]`
 abbrev pub diff_shape : Shape
 diff_shape = with_rules (codes "diff")
-    (file_rule ∷ several (codes "HASH") ∷ options_rule (codes "to") ∷ context_rule ∷ flag_rule (codes "words") ∷ [])
+    (file_rule ∷ several (codes "HASH") ∷ options_rule (codes "to") ∷ context_rule ∷ [])
 
 -- `status FILE`
 abbrev pub status_shape : Shape
@@ -189,9 +189,9 @@ IsJobOf name rows (Files (Heads file)) = (name ≡ codes "heads") × HasText (co
 IsJobOf name rows (Files (Log file pretty most)) = (name ≡ codes "log") × HasText (codes "FILE") rows file
     × HasFlag (codes "pretty") rows pretty × HasNumber (codes "most") rows most
 IsJobOf name rows (Files (Graph file)) = (name ≡ codes "graph") × HasText (codes "FILE") rows file
-IsJobOf name rows (Files (Diff file from to context is_words)) = (name ≡ codes "diff")
+IsJobOf name rows (Files (Diff file from to context)) = (name ≡ codes "diff")
     × HasText (codes "FILE") rows file × HasHeads rows from.items × HasHashes (codes "to") rows to.items
-    × MayHaveNumber (codes "unified") rows context × HasFlag (codes "words") rows is_words
+    × MayHaveNumber (codes "unified") rows context
 IsJobOf name rows (Files (Status file)) = (name ≡ codes "status") × HasText (codes "FILE") rows file
 IsJobOf name rows (Files (Cursor file at heads)) = (name ≡ codes "cursor")
     × HasText (codes "FILE") rows file × HasNumber (codes "AT") rows at × HasHeads rows heads.items
@@ -247,7 +247,7 @@ subject_of (Files (ReadText file is_raw heads)) = record { file = file; beside =
 subject_of (Files (Heads file)) = record { file = file; beside = Nothing }
 subject_of (Files (Log file pretty most)) = record { file = file; beside = Nothing }
 subject_of (Files (Graph file)) = record { file = file; beside = Nothing }
-subject_of (Files (Diff file from to context is_words)) = record { file = file; beside = Nothing }
+subject_of (Files (Diff file from to context)) = record { file = file; beside = Nothing }
 subject_of (Files (Status file)) = record { file = file; beside = Nothing }
 subject_of (Files (Cursor file at heads)) = record { file = file; beside = Nothing }
 subject_of (Files (Check file)) = record { file = file; beside = Nothing }

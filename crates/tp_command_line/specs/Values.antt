@@ -178,7 +178,7 @@ is_numeric id = list_any (λ n. bytes_eq n id) (codes "AT" ∷ codes "at" ∷ co
 
 -- the arguments that are flags
 abbrev pub is_flag : Text → Bool
-is_flag id = list_any (λ n. bytes_eq n id) (codes "client" ∷ codes "verbose" ∷ codes "raw" ∷ codes "pretty" ∷ codes "words" ∷ [])
+is_flag id = list_any (λ n. bytes_eq n id) (codes "client" ∷ codes "verbose" ∷ codes "raw" ∷ codes "pretty" ∷ [])
 
 -- what reads the values of an argument
 abbrev pub parser_named : Text → ValueParser

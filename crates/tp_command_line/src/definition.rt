@@ -591,12 +591,7 @@ fn diff_command<'a>(alloc: Global) -> Result<Command<'a>, AllocError>
         "the heads of the earlier text; the empty text of the beginning if left out",
     ))?
     .arg(later_heads(alloc))?
-    .arg(context(alloc))?
-    .arg(flag(
-        alloc,
-        "words",
-        "shows within the lines what was deleted, as [-old-], and what was inserted, as {+new+}",
-    ))
+    .arg(context(alloc))
 }
 
 fn cursor_command<'a>(alloc: Global) -> Result<Command<'a>, AllocError>

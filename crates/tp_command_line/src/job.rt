@@ -111,7 +111,7 @@ pub enum FileJob<'a> {
         /// The path of the journal.
         file: &'a str,
     },
-    /// Prints which lines of an earlier text become which of a later one, or what goes and comes within them.
+    /// Prints which lines of an earlier text become which of a later one.
     Diff {
         /// The path of the journal.
         file: &'a str,
@@ -121,8 +121,6 @@ pub enum FileJob<'a> {
         to: Vec<Hash>,
         /// How many lines are printed before and after those that differ, where that is given.
         context: Option<u64>,
-        /// Whether what differs is shown within the lines.
-        is_words: bool,
     },
     /// Prints what a journal has, and who has it open.
     Status {
@@ -406,7 +404,6 @@ fn diff_of<'a>(alloc: Global, found: &ArgMatches<'a>) -> Result<Job<'a>, ValueEr
         from: hashes_of(alloc, found, "HASH")?,
         to: hashes_of(alloc, found, "to")?,
         context: number_in(found, "diff", "unified"),
-        is_words: flag_of(found, "diff", "words"),
     }))
 }
 

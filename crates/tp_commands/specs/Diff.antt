@@ -1,4 +1,4 @@
--- What `diff` prints: which lines of one text become which lines of another, or what goes and comes within them.
+-- What `diff` prints: which lines of one text become which lines of another.
 use Rattle.std.specs.Prelude.{◌≡◌, List, [], ◌∷◌, ◌++◌, ℕ, drop, length, take}
 use Rattle.std.specs.List.{flat_map}
 use Rattle.tp_opid.specs.declared.hash.Hash.{Hash}
@@ -10,12 +10,11 @@ use Rattle.tp_hunks.specs.Hunks.{AreFileHunks, AreHunks}
 use Rattle.tp_hunks.specs.Lines.{file_lines, lines_of_text}
 use Rattle.tp_hunks.specs.Printing.{hunk_lines}
 use Rattle.tp_hunks.specs.Unified.{unified_text}
-use Rattle.tp_hunks.specs.Words.{words_of}
 use Rattle.tp_hunks.specs.declared.replacing.Replacement.{Replacement}
 use Rattle.tp_hunks.specs.declared.trimming.Hunk.{Hunk}
 use Rattle.tp_edit.specs.Text.{IsTextOf}
 use Rattle.tp_commands.specs.declared.diff.DiffForm.{DiffForm}
-use Rattle.tp_commands.specs.declared.diff.DiffForm.TheVariants.{Lines, Unified, Words}
+use Rattle.tp_commands.specs.declared.diff.DiffForm.TheVariants.{Lines, Unified}
 use Rattle.tp_commands.specs.Naming.{name_lines}
 use Rattle.tp_commands.specs.Reading.{HasChanges, changes_at_heads}
 
@@ -58,24 +57,16 @@ pub record IsPatchOf (context : ℕ) (old new : List ℕ) (ds : List Difference)
   pub are_hunks : AreFileHunksOf old new ds hunks
   pub spelled : printed ≡ unified_text (file_lines old) (file_lines new) context hunks
 
--- What is printed is what the differences take out of their lines and put in, with the lines before and after them.
-pub record AreWordsOf (context : ℕ) (old new : List ℕ) (ds : List Difference) (printed : List ℕ) : Type 0 where
-  pub replacements : List Replacement
-  pub are_replacements : AreReplacementsOf new ds replacements
-  pub spelled : printed ≡ words_of old new replacements context
-
 -- what is printed in each form
 abbrev pub IsPrintedAs : DiffForm → List ℕ → List ℕ → List Difference → List ℕ → Type 0
 IsPrintedAs Lines old new ds printed = IsDiffOf old new ds printed
 IsPrintedAs (Unified file context) old new ds printed = IsPatchOf context old new ds printed
-IsPrintedAs (Words context) old new ds printed = AreWordsOf context old new ds printed
 
 -- the names of both texts before what `patch` takes, where that is anything
 abbrev pub named : DiffForm → List Hash → List Hash → List ℕ → List ℕ
 named (Unified file context) from to (b ∷ printed) = name_lines file.now from to ++ (b ∷ printed)
 named (Unified file context) from to [] = []
 named Lines from to printed = printed
-named (Words context) from to printed = printed
 
 -- What is printed is what leads from the text of the past of some heads to that of others, or to the text of all changes where
 -- there are none, in this form: by the differences between the two, element by element.

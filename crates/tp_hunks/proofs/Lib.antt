@@ -8,4 +8,3 @@ pub mod FileHunks
 pub mod HunkLaws
 pub mod PrintLaws
 pub mod UnifiedLaws
-pub mod WordLaws

@@ -27,15 +27,15 @@ pub(crate) struct Step {
     pub come: usize,
 }
 
-/// How many newlines are among the characters.
-pub(crate) fn newlines(text: &[char]) -> usize
+// How many newlines are among the characters.
+fn newlines(text: &[char]) -> usize
     ensures { result ≡ newline_count text.now }
 {
     text.iter().filter(|ch| **ch == '\n').count()
 }
 
-/// What is after the first `count` characters.
-pub(crate) fn after_first(text: &[char], count: usize) -> &[char]
+// What is after the first `count` characters.
+fn after_first(text: &[char], count: usize) -> &[char]
     requires { count ≤ length text.now }
     ensures { result.now ≡ drop count text.now }
 {

@@ -116,11 +116,7 @@ pub fn carry_out<D: Disk + AllocGlobal, I: Read, W: Write>(
             from,
             to,
             context,
-            is_words,
-        } => put(
-            out,
-            diff(rt, file, &from, &to, &form_of(file, context, is_words)),
-        ),
+        } => put(out, diff(rt, file, &from, &to, &form_of(file, context))),
         FileJob::Status { file } => put(out, status(rt, file)),
         FileJob::Cursor { file, at, heads } => put(out, cursor(rt, file, at as usize, &heads)),
         FileJob::Check { file } => check_file(rt, file, out),
@@ -225,19 +221,15 @@ fn graph<D: Disk + AllocGlobal>(rt: &D, file: &str) -> Result<String, CommandErr
 }
 
 // How `diff` prints.
-fn form_of<'a>(file: &'a str, context: Option<u64>, is_words: bool) -> DiffForm<'a>
-    ensures { result ≡ form_asked file context is_words }
+fn form_of<'a>(file: &'a str, context: Option<u64>) -> DiffForm<'a>
+    ensures { result ≡ form_asked file context }
 {
-    match (context, is_words) {
-        (None, false) => DiffForm::Lines,
-        (Some(lines), false) => DiffForm::Unified {
+    match context {
+        Some(lines) => DiffForm::Unified {
             file,
             context: lines as usize,
         },
-        (None, true) => DiffForm::Words { context: 0 },
-        (Some(lines), true) => DiffForm::Words {
-            context: lines as usize,
-        },
+        None => DiffForm::Lines,
     }
 }
 
