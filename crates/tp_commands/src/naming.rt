@@ -52,12 +52,7 @@ fn put_heads(alloc: Global, name: &mut String, heads: &[Hash]) -> Result<(), All
 }
 
 // Puts the heads after the name, or a word where there are none.
-fn put_tag(
-    alloc: Global,
-    name: &mut String,
-    heads: &[Hash],
-    none: &str,
-) -> Result<(), AllocError>
+fn put_tag(alloc: Global, name: &mut String, heads: &[Hash], none: &str) -> Result<(), AllocError>
     ensures { OnOk result
         (string_bytes name.new ≡ string_bytes name.old ++ heads_tag none.now heads.now) }
 {

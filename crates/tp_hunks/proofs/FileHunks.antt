@@ -47,8 +47,8 @@ AllRise (g ∷ gs) = (g.old_first ≤ g.old_last) × (g.new_first ≤ g.new_last
 rise_from : (ss : List Step) (g : Touched) → g.old_first ≤ g.old_last → g.new_first ≤ g.new_last → AllRise (touched_from g ss)
 rise_from [] g old new = (old, new, tt)
 rise_from (s ∷ ss) g old new = go (nat_le s.stay 1)
-        (rise_from ss (joined_with g (touched_after g s)) (omega (arith, old)) (omega (arith, new)))
-        (rise_from ss (touched_after g s) (omega arith) (omega arith))
+    (rise_from ss (joined_with g (touched_after g s)) (omega (arith, old)) (omega (arith, new)))
+    (rise_from ss (touched_after g s) (omega arith) (omega arith))
   where
     go : (b : Bool) → AllRise (touched_from (joined_with g (touched_after g s)) ss) → AllRise (touched_from (touched_after g s) ss)
         → AllRise (if b then touched_from (joined_with g (touched_after g s)) ss else g ∷ touched_from (touched_after g s) ss)

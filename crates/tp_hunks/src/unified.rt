@@ -94,7 +94,10 @@ fn lines_after(context: usize, count: usize, block: &Block) -> usize
 fn old_range(context: usize, count: usize, block: &Block) -> Range
     ensures { result ≡ range_of_old context count block.now }
 {
-    let at = block.first.old_at.saturating_sub(lines_before(context, block));
+    let at = block
+        .first
+        .old_at
+        .saturating_sub(lines_before(context, block));
     let end = block.last.old_at as u128 + block.last.old_len as u128;
     let to = end + lines_after(context, count, block) as u128;
     Range {
@@ -107,7 +110,10 @@ fn old_range(context: usize, count: usize, block: &Block) -> Range
 fn new_range(context: usize, count: usize, block: &Block) -> Range
     ensures { result ≡ range_of_new context count block.now }
 {
-    let at = block.first.new_at.saturating_sub(lines_before(context, block));
+    let at = block
+        .first
+        .new_at
+        .saturating_sub(lines_before(context, block));
     let end = block.last.new_at as u128 + block.last.new_len as u128;
     let to = end + lines_after(context, count, block) as u128;
     Range {
@@ -243,7 +249,10 @@ fn block_text(
         (map (λ l. l.now) old.now) (map (λ l. l.now) new.now) context hunks.now block.now) }
 {
     let mut text = places_line(alloc, context, old.len(), block)?;
-    let from = block.first.old_at.saturating_sub(lines_before(context, block));
+    let from = block
+        .first
+        .old_at
+        .saturating_sub(lines_before(context, block));
     put_hunks(&mut text, old, new, context, from, hunks_in(hunks, block))?;
     Ok(text)
 }

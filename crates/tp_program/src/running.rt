@@ -25,9 +25,9 @@ use std::alloc::Global;
 use std::io::{BufReader, Read, Write};
 use tp_command_line::{FileJob, Inserted};
 use tp_commands::{
-    CommandError, DiffForm, begin, cursor_line, diff_lines, edit, graph_lines, hash_line, head_lines,
-    id_line, log_lines, merge, pretty_lines, raw_text, reopen, saved_file, status_lines,
-    text_in_file, text_line,
+    CommandError, DiffForm, begin, cursor_line, diff_lines, edit, graph_lines, hash_line,
+    head_lines, id_line, log_lines, merge, pretty_lines, raw_text, reopen, saved_file,
+    status_lines, text_in_file, text_line,
 };
 use tp_disk::{Disk, Opened, draw, draw_actor, generator, put_new, replace};
 use tp_document::Document;
