@@ -18,7 +18,7 @@ name_char ch = if is_odd ch then codes "_" else encode_utf8 ch
 abbrev pub head_tag : Hash → List ℕ
 head_tag h = codes "@" ++ encode_lower (take 4 h.0)
 
--- the same of all heads, or a word where there are none
+-- the first digits of all heads, or a word where there are none
 abbrev pub heads_tag : List ℕ → List Hash → List ℕ
 heads_tag none [] = codes "@" ++ none
 heads_tag none (h ∷ hs) = flat_map head_tag (h ∷ hs)

@@ -27,7 +27,7 @@ use tp_peer::PeerSequence;
 pub enum DiffForm<'a> {
     /// The lines that go, and those that come in their place.
     Lines,
-    /// The same as `patch` takes it.
+    /// The lines that differ, as `patch` takes them.
     Unified {
         /// The path of the file that both texts are named after.
         file: &'a str,

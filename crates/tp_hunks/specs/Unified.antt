@@ -70,7 +70,7 @@ lines_before context b = smaller context b.first.old_at
 abbrev pub lines_after : ℕ → ℕ → Block → ℕ
 lines_after context count b = smaller context (count - (b.last.old_at + b.last.old_len))
 
--- the lines of a block, with those before and after it: in the old text, which has so many, and in the new one
+-- the lines of a block, with those before and after it: in the old text, which has `count` lines, and in the new one
 abbrev pub old_range : ℕ → ℕ → Block → Range
 old_range context count b = record {
   at = b.first.old_at - lines_before context b;

@@ -82,7 +82,7 @@ fn lines_before(context: usize, block: &Block) -> usize
     smaller(context, block.first.old_at)
 }
 
-// How many are printed after it, where the old text has so many.
+// How many are printed after it, where the old text has `count` lines.
 fn lines_after(context: usize, count: usize, block: &Block) -> usize
     ensures { result ≡ count_after context count block.now }
 {
