@@ -29,7 +29,7 @@ pub enum DiffForm<'a> {
     Lines,
     /// The lines that differ, as `patch` takes them.
     Unified {
-        /// The path of the file that both texts are with_names after.
+        /// The path of the file that both texts are named after.
         file: &'a str,
         /// How many lines are printed before and after.
         context: usize,
