@@ -114,10 +114,11 @@ pub(crate) fn meet_idle<'a, R: Disk + Net + AllocGlobal>(
         Ok(applied) => {
             if applied == 0 {
                 between.peer = Some(peer);
+                Ok(Some(applied))
             } else {
                 between.stamp = peer.stop().leave();
+                Ok(Some(applied))
             }
-            Ok(Some(applied))
         }
         Err(error) => {
             between.stamp = None;

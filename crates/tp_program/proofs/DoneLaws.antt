@@ -1,5 +1,5 @@
 -- What holds whatever a call answered.
-use Rattle.std.proofs.Common.{◌≡◌, ℕ, List, MatchResult, Option, None, Result, Ok, Err, subst, sym}
+use Rattle.std.proofs.Common.{◌≡◌, ◌⊎◌, ℕ, List, MatchResult, Option, None, Result, Ok, Err, inl, inr, subst, sym, ⊎_elim}
 use Rattle.std.specs.Prelude.{IfErr, IfOk, IsOkAnd, OnErr, OnOk}
 use Rattle.tp_report.specs.Names.{WasMade}
 use Rattle.tp_report.specs.declared.error.JobError.{JobError}
@@ -23,6 +23,22 @@ refused_on (Err e) p = p
 pub on_value : {A E : Type 0} (P Q : A → Type 0) (r : Result A E) → IfOk r P → ((x : A) → P x → Q x) → IfOk r Q
 on_value P Q (Ok x) p f = f x p
 on_value P Q (Err e) p f = tt
+
+-- what was written is what was to be printed
+pub printed_of : {A B E F : Type 0} (done : Result A E) (printed : Result B F) (bytes : B → List ℕ) (P Q : List ℕ → Type 0)
+    → OnOk done (IsOkAnd printed (λ t. Q (bytes t))) → IfOk printed (λ t. P (bytes t)) → OnOk done ((x : List ℕ) × P x × Q x)
+printed_of (Ok a) (Ok t) bytes P Q wrote said = (bytes t, said, wrote)
+printed_of (Ok a) (Err f) bytes P Q wrote said = absurd wrote
+printed_of (Err e) printed bytes P Q wrote said = tt
+
+-- and where the output failed a part of that
+pub partly_of : {A B E F : Type 0} (done : Result A E) (printed : Result B F) (bytes : B → List ℕ) (P P' Q : List ℕ → Type 0) (K : Type 0) (O R : E → Type 0)
+    → ((x : List ℕ) → P x → P' x) → IfErr done (λ e. K ⊎ (O e × IsOkAnd printed (λ t. Q (bytes t)))) → IfOk printed (λ t. P (bytes t))
+    → IfErr done (λ e. K ⊎ ((O e × ((x : List ℕ) × P' x × Q x)) ⊎ R e))
+partly_of (Ok a) printed bytes P P' Q K O R wider failed said = tt
+partly_of (Err e) (Ok t) bytes P P' Q K O R wider failed said =
+    ⊎_elim (λ kept. inl kept) (λ part. inr (inl (part.0, (bytes t, wider (bytes t) said, part.1)))) failed
+partly_of (Err e) (Err f) bytes P P' Q K O R wider failed said = ⊎_elim (λ kept. inl kept) (λ part. absurd part.1) failed
 
 -- what was made whose line couldn't be printed is what is said of the lines that could have been
 pub made_of : {S F D : Type 0} (done : Result D JobError) (printed : Result S F) (P : List ℕ → Type 0) (bytes : S → List ℕ)

@@ -131,14 +131,9 @@ pub fn carry_out<D: Disk + AllocGlobal, I: Read, W: Write>(
         FileJob::Load { saved, file } => put(out, load_from(rt, saved, file, wait)),
         FileJob::Recover {
             file,
-            out: Some(made),
+            out: made,
             others,
-        } => recover_file(rt, file, made, &others, out),
-        FileJob::Recover {
-            file,
-            out: None,
-            others,
-        } => put(out, texts_of_records(rt, file, &others)),
+        } => recover_job(rt, file, made, others, out),
         FileJob::Show { log } => show_file(rt, log, out),
         FileJob::Simulate { script } => simulate_file(rt, script, out),
     }
@@ -541,6 +536,45 @@ fn texts_of_records<D: Disk + AllocGlobal>(
     let bytes = rt.read(file)?;
     let others = read_others(rt, paths)?;
     inserted_texts(rt.alloc(), &bytes, &others.changes)
+}
+
+// Makes the journal of all that can be had, where it has a path, and else writes what the whole records inserted.
+fn recover_by<D: Disk + AllocGlobal, W: Write>(
+    rt: &D,
+    file: &str,
+    made: Option<&str>,
+    paths: &[&str],
+    out: &mut W,
+) -> Result<(), JobError>
+    ensures ok { OnOk result
+        (GrowsBy (IsRecoveryOutput (D.saw rt.now) file.now made.entry
+        (map (λ p. p.now) paths.now) None) (W.contents out.old) (W.contents out.new)) }
+    ensures err { IfErr result (λ e. RefusesRecoveryOutput (D.saw rt.now) file.now made.entry
+        (map (λ p. p.now) paths.now) (W.contents out.old) e (W.contents out.new)) }
+    ensures said { IfErr result IsAllSaid }
+{
+    match made {
+        Some(path) => recover_file(rt, file, path, paths, out),
+        None => put(out, texts_of_records(rt, file, paths)),
+    }
+}
+
+// Does what [`recover_by`] does.
+fn recover_job<D: Disk + AllocGlobal, W: Write>(
+    rt: &D,
+    file: &str,
+    made: Option<&str>,
+    others: Vec<&str>,
+    out: &mut W,
+) -> Result<(), JobError>
+    ensures ok { OnOk result
+        (GrowsBy (IsRecoveryOutput (D.saw rt.now) file.now made.entry
+        (map (λ p. p.now) others.entry.items) None) (W.contents out.old) (W.contents out.new)) }
+    ensures err { IfErr result (λ e. RefusesRecoveryOutput (D.saw rt.now) file.now made.entry
+        (map (λ p. p.now) others.entry.items) (W.contents out.old) e (W.contents out.new)) }
+    ensures said { IfErr result IsAllSaid }
+{
+    recover_by(rt, file, made, &others, out)
 }
 
 // Begins the journal at a path with the document.
