@@ -31,7 +31,7 @@ _textpeer() {
     heads) values=(file) options='--explain -h --help' ;;
     log) values=(file) options='--pretty --most --explain -h --help' takes='--most' ;;
     graph) values=(file) options='--explain -h --help' ;;
-    diff) values=(file hash) rest=hash options='--to --explain -h --help' takes='--to' ;;
+    diff) values=(file hash) rest=hash options='--to -U --unified --explain -h --help' takes='--to -U --unified' ;;
     status) values=(file) options='--explain -h --help' ;;
     cursor) values=(file other hash) rest=hash options='--explain -h --help' ;;
     check) values=(file) options='--explain -h --help' ;;

@@ -11,6 +11,8 @@ from tree import TOP
 FILE, HASH, OTHER = "file", "hash", "other"
 KINDS = {"FILE": FILE, "OTHER": FILE, "OUT": FILE, "SAVED": FILE, "LOG": FILE, "SCRIPT": FILE, "TEXT": FILE, "HASH": HASH, "ADDR": OTHER,
          "AT": OTHER, "PAGE": OTHER}
+# The options that ask for help or the version.
+ASKING = ("--help", "--version")
 SECTION = re.compile(r"^(Commands|Arguments|Options|Anywhere before --|Example):\n((?:  .*(?:\n|\Z))+)", re.M)
 VALUE = re.compile(r"  [<\[](\w+)[>\]](\.\.\.)? +(.+)")
 OPTION = re.compile(r"  (?:(-\w), |    )(--[\w-]+)(?: (<\w+>|\[<\w+>\])(\.\.\.)?)?  +(.+)")
@@ -124,8 +126,8 @@ def read_command(name):
               for value, many, what in lines_of(sections, "Arguments", VALUE)]
     options = options_of(sections, usage)
     example = [line[2:] for line in sections["Example"].splitlines()]
-    return (Command(name, about, values, [option for option in options if not option.short], example),
-            [option for option in options if option.short])
+    return (Command(name, about, values, [option for option in options if option.name not in ASKING], example),
+            [option for option in options if option.name in ASKING])
 
 
 def read_program():

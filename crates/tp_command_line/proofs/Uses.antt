@@ -16,7 +16,7 @@ use Rattle.clap.specs.declared.builder.value_parser.ValueParser.{ValueParser}
 use Rattle.clap.specs.declared.builder.value_parser.ValueParser.TheVariants as parser
 use Rattle.clap.specs.declared.builder.value_parser.ValueParser.TheVariants.{String}
 use Rattle.tp_command_line.specs.Commands.{textpeer_app}
-use Rattle.tp_command_line.specs.Rules.{few, file_rule, flag_rule, follow_rule, key_rule, list_rule, mandatory, message_rule, most_rule, numbers, numeric, option_rule, optional_rule, options_rule, page_rule, patience_rule, pausing, required_rule, server_rule, sessions_rule, several, time_rule, waiting, workers_rule, wait_rule}
+use Rattle.tp_command_line.specs.Rules.{few, file_rule, flag_rule, follow_rule, key_rule, list_rule, mandatory, message_rule, most_rule, numbers, numeric, option_rule, optional_rule, options_rule, page_rule, patience_rule, pausing, required_rule, server_rule, sessions_rule, several, time_rule, waiting, workers_rule, wait_rule, context_rule}
 use Rattle.tp_command_line.specs.Uses.{IsUse, always_has, has_default, is_required, shape_named}
 use Rattle.tp_command_line.specs.Values.{parser_named}
 use Rattle.tp_command_line.proofs.Rows.{AllFilled, AllTaken, HasFirst, or_else_none, values_taken, with_values_filled, without_filled}
@@ -187,6 +187,9 @@ to_sound = record { fills = repeated_fills (placed 2 (options_rule (codes "to"))
 most_sound : IsSound (placed 2 most_rule)
 most_sound = single_sound numbers (placed 2 most_rule) refl refl refl
 
+context_sound : IsSound (placed 2 context_rule)
+context_sound = single_sound numbers (placed 2 context_rule) refl refl refl
+
 pretty_sound : IsSound (placed 2 (flag_rule (codes "pretty")))
 pretty_sound = record { fills = flag_fills (placed 2 (flag_rule (codes "pretty"))) refl; defaults = refl; reading = refl }
 
@@ -264,6 +267,7 @@ all_sound = assumption (
   made_sound,
   since_sound,
   pretty_sound,
+  context_sound,
   heads_sound 2 false,
   heads_sound 3 true,
   help_sound,

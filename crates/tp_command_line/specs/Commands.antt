@@ -12,7 +12,7 @@ use Rattle.tp_command_line.specs.declared.job.Inserted.TheVariants.{Given, InFil
 use Rattle.tp_command_line.specs.declared.job.Job.{Job}
 use Rattle.tp_command_line.specs.declared.job.Subject.{Subject}
 use Rattle.tp_command_line.specs.declared.job.Job.TheVariants.{Files, Follow, Serve, Session, Sync, Web}
-use Rattle.tp_command_line.specs.Rules.{file_rule, flag_rule, follow_rule, key_rule, list_rule, mandatory, message_rule, most_rule, numeric, option_rule, optional_rule, options_rule, page_rule, patience_rule, required_rule, server_rule, sessions_rule, several, time_rule, workers_rule, wait_rule}
+use Rattle.tp_command_line.specs.Rules.{file_rule, flag_rule, follow_rule, key_rule, list_rule, mandatory, message_rule, most_rule, numeric, option_rule, optional_rule, options_rule, page_rule, patience_rule, required_rule, server_rule, sessions_rule, several, time_rule, workers_rule, wait_rule, context_rule}
 use Rattle.tp_command_line.specs.Values.{HasAddress, HasFlag, HasHashes, HasHeads, HasHosting, HasKey, HasNumber, HasTexts, MayHaveNumber}
 
 -- ---- shapes
@@ -66,9 +66,10 @@ log_shape = with_rules (codes "log") (file_rule ∷ flag_rule (codes "pretty") �
 abbrev pub graph_shape : Shape
 graph_shape = with_rules (codes "graph") (file_rule ∷ [])
 
--- `diff FILE [HASH ..] [--to HASH ..]`
+-- `diff FILE [HASH ..] [--to HASH ..] [--unified N]`
 abbrev pub diff_shape : Shape
-diff_shape = with_rules (codes "diff") (file_rule ∷ several (codes "HASH") ∷ options_rule (codes "to") ∷ [])
+diff_shape = with_rules (codes "diff")
+    (file_rule ∷ several (codes "HASH") ∷ options_rule (codes "to") ∷ context_rule ∷ [])
 
 -- `status FILE`
 abbrev pub status_shape : Shape
@@ -194,8 +195,9 @@ IsJobOf name rows (Files (Heads file)) = (name ≡ codes "heads") × HasText (co
 IsJobOf name rows (Files (Log file pretty most)) = (name ≡ codes "log") × HasText (codes "FILE") rows file
     × HasFlag (codes "pretty") rows pretty × HasNumber (codes "most") rows most
 IsJobOf name rows (Files (Graph file)) = (name ≡ codes "graph") × HasText (codes "FILE") rows file
-IsJobOf name rows (Files (Diff file from to)) = (name ≡ codes "diff")
+IsJobOf name rows (Files (Diff file from to context)) = (name ≡ codes "diff")
     × HasText (codes "FILE") rows file × HasHeads rows from.items × HasHashes (codes "to") rows to.items
+    × MayHaveNumber (codes "unified") rows context
 IsJobOf name rows (Files (Status file)) = (name ≡ codes "status") × HasText (codes "FILE") rows file
 IsJobOf name rows (Files (Cursor file at heads)) = (name ≡ codes "cursor")
     × HasText (codes "FILE") rows file × HasNumber (codes "AT") rows at × HasHeads rows heads.items
@@ -256,7 +258,7 @@ subject_of (Files (ReadText file is_raw heads)) = record { file = file; beside =
 subject_of (Files (Heads file)) = record { file = file; beside = Nothing }
 subject_of (Files (Log file pretty most)) = record { file = file; beside = Nothing }
 subject_of (Files (Graph file)) = record { file = file; beside = Nothing }
-subject_of (Files (Diff file from to)) = record { file = file; beside = Nothing }
+subject_of (Files (Diff file from to context)) = record { file = file; beside = Nothing }
 subject_of (Files (Status file)) = record { file = file; beside = Nothing }
 subject_of (Files (Cursor file at heads)) = record { file = file; beside = Nothing }
 subject_of (Files (Check file)) = record { file = file; beside = Nothing }

@@ -110,6 +110,10 @@ time_rule = record (numeric (option_rule (codes "time"))) { defaults = codes "0"
 abbrev pub most_rule : Rule
 most_rule = record (numeric (option_rule (codes "most"))) { defaults = codes "18446744073709551615" ∷ [] }
 
+-- how many lines are printed before and after others; `-U` too
+abbrev pub context_rule : Rule
+context_rule = record (numeric (option_rule (codes "unified"))) { short = Some 85 }
+
 -- the message is empty where it is left out
 abbrev pub message_rule : Rule
 message_rule = record (option_rule (codes "message")) { defaults = [] ∷ [] }

@@ -179,7 +179,7 @@ IsNoPage text = ((addr : SocketAddr) → IsSocketText text addr → ⊥) ⊎ ((a
 
 -- the arguments whose values are numbers
 abbrev pub is_numeric : Text → Bool
-is_numeric id = list_any (λ n. bytes_eq n id) (codes "AT" ∷ codes "at" ∷ codes "del" ∷ codes "time" ∷ codes "sessions" ∷ codes "most" ∷ [])
+is_numeric id = list_any (λ n. bytes_eq n id) (codes "AT" ∷ codes "at" ∷ codes "del" ∷ codes "time" ∷ codes "sessions" ∷ codes "most" ∷ codes "unified" ∷ [])
 
 -- the arguments that are flags
 abbrev pub is_flag : Text → Bool

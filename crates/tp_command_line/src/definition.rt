@@ -3,7 +3,7 @@
 ghost use Rattle.std.specs.Prelude.{◌≡◌, ◌∷◌, IfOk, [], false, codes};
 ghost use Rattle.clap.specs.Words.{App, Shape, app_of, rule_of, with_subcommand};
 ghost use Rattle.tp_command_line.specs.Commands.{IsLeaf, bare_app, cursor_shape, diff_shape, edit_at_shape, edit_shape, files_app, journals_app, load_shape, log_shape, merge_shape, new_shape, recover_shape, serve_shape, session_shape, sync_shape, text_shape, textpeer_app, update_shape, web_shape, whole_text_shape, with_rules};
-ghost use Rattle.tp_command_line.specs.Rules.{file_rule, flag_rule, follow_rule, list_rule, mandatory, message_rule, most_rule, numeric, option_rule, optional_rule, options_rule, page_rule, patience_rule, required_rule, server_rule, sessions_rule, several, time_rule, workers_rule, wait_rule};
+ghost use Rattle.tp_command_line.specs.Rules.{file_rule, flag_rule, follow_rule, list_rule, mandatory, message_rule, most_rule, numeric, option_rule, optional_rule, options_rule, page_rule, patience_rule, required_rule, server_rule, sessions_rule, several, time_rule, workers_rule, wait_rule, context_rule};
 
 use clap::builder::ValueParser;
 use clap::{Arg, ArgAction, Command, value_parser};
@@ -569,6 +569,21 @@ fn later_heads<'a>(alloc: Global) -> Arg<'a>
     .action(ArgAction::Append)
 }
 
+// How many lines are printed before and after those that differ.
+fn context<'a>(alloc: Global) -> Arg<'a>
+    ensures rule { rule_of result ≡ context_rule }
+    ensures local { result.global ≡ false }
+{
+    option(
+        alloc,
+        "unified",
+        "N",
+        "prints N lines before and after those that differ too, for `patch` with names of the texts",
+    )
+    .short('U')
+    .value_parser(value_parser!(u64))
+}
+
 fn diff_command<'a>(alloc: Global) -> Result<Command<'a>, AllocError>
     ensures { IfOk result (IsLeaf diff_shape) }
 {
@@ -576,13 +591,15 @@ fn diff_command<'a>(alloc: Global) -> Result<Command<'a>, AllocError>
         alloc,
         "diff",
         "Prints which lines of an earlier text became which of a later one, as what was typed and deleted says",
-        "Example:\n  textpeer diff notes.journal $(textpeer heads notes.journal)",
+        "Example:\n  textpeer diff notes.journal $(textpeer heads notes.journal)\n  \
+         textpeer diff notes.journal $(cat notes.heads) -U 3 | patch notes.txt",
     )?
     .arg(hashes(
         alloc,
         "the heads of the earlier text; the empty text of the beginning if left out",
     ))?
-    .arg(later_heads(alloc))
+    .arg(later_heads(alloc))?
+    .arg(context(alloc))
 }
 
 fn cursor_command<'a>(alloc: Global) -> Result<Command<'a>, AllocError>

@@ -119,6 +119,8 @@ pub enum FileJob<'a> {
         from: Vec<Hash>,
         /// The heads of the later text; as it is now where there are none.
         to: Vec<Hash>,
+        /// How many lines are printed before and after those that differ, where that is given.
+        context: Option<u64>,
     },
     /// Prints what a journal has, and who has it open.
     Status {
@@ -424,6 +426,7 @@ fn diff_of<'a>(alloc: Global, found: &ArgMatches<'a>) -> Result<Job<'a>, ValueEr
         file: text_of(found, "diff", "FILE"),
         from: hashes_of(alloc, found, "HASH")?,
         to: hashes_of(alloc, found, "to")?,
+        context: number_in(found, "diff", "unified"),
     }))
 }
 

@@ -14,7 +14,8 @@ use Rattle.tp_history.proofs.SoundLaws.{sound_pasts}
 use Rattle.tp_hunks.specs.Lines.{LeadsText}
 use Rattle.tp_hunks.specs.declared.replacing.Replacement.{Replacement}
 use Rattle.tp_edit.specs.Text.{IsTextOf}
-use Rattle.tp_commands.specs.Diff.{AreReplacementsOf, IsDiffBetween, IsDiffOf, IsReplacementOf, LeadsFrom}
+use Rattle.tp_commands.specs.declared.diff.DiffForm.{DiffForm}
+use Rattle.tp_commands.specs.Diff.{AreReplacementsOf, IsDiffBetween, IsPrintedAs, IsReplacementOf, LeadsFrom, with_names}
 use Rattle.tp_commands.specs.Reading.{changes_at_heads}
 
 -- one more difference, and its replacement
@@ -45,17 +46,19 @@ pub leads_at : (C : List ChangeParts) (from to : List Hash) (old new old' new' :
 leads_at C from to old new old' new' ds ds' sound leads is was o n d = rw (o, n, d) (leads_from C from to old new ds sound leads is was)
 
 -- what is printed is between the texts at the heads
-pub diff_between : (C : List ChangeParts) (from to : List Hash) (old new old' new' printed : List ℕ) (ds ds' : List Difference)
+pub diff_between : (form : DiffForm) (C : List ChangeParts) (from to : List Hash) (old new old' new' body printed : List ℕ) (ds ds' : List Difference)
     → AreDifferences C (past C from) (changes_at_heads C to) ds → IsTextOf (past C from) old → IsTextOf (changes_at_heads C to) new → old' ≡ old → new' ≡ new → ds' ≡ ds
-    → IsDiffOf old' new' ds' printed → IsDiffBetween C from to printed
-diff_between C from to old new old' new' printed ds ds' are is was o n d made = record {
+    → IsPrintedAs form old' new' ds' body → printed ≡ with_names form from to body → IsDiffBetween form C from to printed
+diff_between form C from to old new old' new' body printed ds ds' are is was o n d made spelled = record {
   old = old';
   new = new';
   old_text = subst (IsTextOf (past C from)) (sym o) is;
   new_text = subst (IsTextOf (changes_at_heads C to)) (sym n) was;
   differences = ds';
   are = subst (AreDifferences C (past C from) (changes_at_heads C to)) (sym d) are;
+  body = body;
   is_diff = made;
+  spelled = spelled;
 }
 
 -- a splice after some characters of the text

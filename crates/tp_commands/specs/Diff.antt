@@ -1,17 +1,21 @@
 -- What `diff` prints: which lines of one text become which lines of another.
-use Rattle.std.specs.Prelude.{◌≡◌, List, [], ◌∷◌, ℕ, drop, length, take}
+use Rattle.std.specs.Prelude.{◌≡◌, List, [], ◌∷◌, ◌++◌, ℕ, drop, length, take}
 use Rattle.std.specs.List.{flat_map}
 use Rattle.tp_opid.specs.declared.hash.Hash.{Hash}
 use Rattle.tp_layout.specs.declared.parts.ChangeParts.{ChangeParts}
 use Rattle.tp_snapshot.specs.Differences.{AllInText, AllSeparate, AreDifferences, after_differences}
 use Rattle.tp_snapshot.specs.declared.differences.Difference.{Difference}
 use Rattle.tp_history.specs.Past.{past}
-use Rattle.tp_hunks.specs.Hunks.{AreHunks}
-use Rattle.tp_hunks.specs.Lines.{lines_of_text}
+use Rattle.tp_hunks.specs.Hunks.{AreFileHunks, AreHunks}
+use Rattle.tp_hunks.specs.Lines.{file_lines, lines_of_text}
 use Rattle.tp_hunks.specs.Printing.{hunk_lines}
+use Rattle.tp_hunks.specs.Unified.{unified_text}
 use Rattle.tp_hunks.specs.declared.replacing.Replacement.{Replacement}
 use Rattle.tp_hunks.specs.declared.trimming.Hunk.{Hunk}
 use Rattle.tp_edit.specs.Text.{IsTextOf}
+use Rattle.tp_commands.specs.declared.diff.DiffForm.{DiffForm}
+use Rattle.tp_commands.specs.declared.diff.DiffForm.TheVariants.{Lines, Unified}
+use Rattle.tp_commands.specs.Naming.{name_lines}
 use Rattle.tp_commands.specs.Reading.{HasChanges, changes_at_heads}
 
 -- the replacement is what the difference does to a text, where it leaves this one
@@ -43,19 +47,42 @@ pub record IsDiffOf (old new : List ℕ) (ds : List Difference) (printed : List 
   pub are_hunks : AreHunksOf old new ds hunks
   pub spelled : printed ≡ flat_map (hunk_lines (lines_of_text old) (lines_of_text new)) hunks
 
--- What is printed are the hunks from the text of the past of some heads to that of others, or to the text of all changes where
--- there are none: those of the differences between the two, element by element.
-pub record IsDiffBetween (C : List ChangeParts) (from to : List Hash) (printed : List ℕ) : Type 0 where
+-- The hunks are those from one text to another as files have lines, which the differences make.
+abbrev pub AreFileHunksOf : List ℕ → List ℕ → List Difference → List Hunk → Type 0
+AreFileHunksOf old new ds hunks = (rs : List Replacement) × AreReplacementsOf new ds rs × AreFileHunks old new rs hunks
+
+-- What is printed are these hunks, with the lines before and after them.
+pub record IsPatchOf (context : ℕ) (old new : List ℕ) (ds : List Difference) (printed : List ℕ) : Type 0 where
+  pub hunks : List Hunk
+  pub are_hunks : AreFileHunksOf old new ds hunks
+  pub spelled : printed ≡ unified_text (file_lines old) (file_lines new) context hunks
+
+-- what is printed in each form
+abbrev pub IsPrintedAs : DiffForm → List ℕ → List ℕ → List Difference → List ℕ → Type 0
+IsPrintedAs Lines old new ds printed = IsDiffOf old new ds printed
+IsPrintedAs (Unified file context) old new ds printed = IsPatchOf context old new ds printed
+
+-- the names of both texts before what `patch` takes, where that is anything
+abbrev pub with_names : DiffForm → List Hash → List Hash → List ℕ → List ℕ
+with_names (Unified file context) from to (b ∷ printed) = name_lines file.now from to ++ (b ∷ printed)
+with_names (Unified file context) from to [] = []
+with_names Lines from to printed = printed
+
+-- What is printed is what leads from the text of the past of some heads to that of others, or to the text of all changes where
+-- there are none, in this form: by the differences between the two, element by element.
+pub record IsDiffBetween (form : DiffForm) (C : List ChangeParts) (from to : List Hash) (printed : List ℕ) : Type 0 where
   pub old : List ℕ
   pub new : List ℕ
   pub old_text : IsTextOf (past C from) old
   pub new_text : IsTextOf (changes_at_heads C to) new
   pub differences : List Difference
   pub are : AreDifferences C (past C from) (changes_at_heads C to) differences
-  pub is_diff : IsDiffOf old new differences printed
+  pub body : List ℕ
+  pub is_diff : IsPrintedAs form old new differences body
+  pub spelled : printed ≡ with_names form from to body
 
 -- It is so of a journal's changes.
-pub record IsDiff (journal : List ℕ) (from to : List Hash) (printed : List ℕ) : Type 0 where
+pub record IsDiff (form : DiffForm) (journal : List ℕ) (from to : List Hash) (printed : List ℕ) : Type 0 where
   pub changes : List ChangeParts
   pub recovers : HasChanges journal changes
-  pub is_diff : IsDiffBetween changes from to printed
+  pub is_diff : IsDiffBetween form changes from to printed

@@ -6,6 +6,7 @@ pub mod Refusing
 pub mod Log
 pub mod Pretty
 pub mod Graph
+pub mod Naming
 pub mod Diff
 pub mod Since
 pub mod Status

@@ -8,13 +8,14 @@ mod error;
 mod graph;
 pub mod laws;
 mod log;
+mod naming;
 mod pretty;
 mod reading;
 mod since;
 mod status;
 mod updating;
 
-pub use diff::diff_lines;
+pub use diff::{DiffForm, diff_lines};
 pub use editing::{begin, edit, merge, reopen};
 pub use error::CommandError;
 pub use graph::graph_lines;

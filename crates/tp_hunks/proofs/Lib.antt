@@ -1,7 +1,10 @@
 pub mod LineLists
 pub mod Splitting
+pub mod FileLines
 pub mod TouchLaws
 pub mod Leading
 pub mod TrimLaws
+pub mod FileHunks
 pub mod HunkLaws
 pub mod PrintLaws
+pub mod UnifiedLaws

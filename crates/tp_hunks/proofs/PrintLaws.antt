@@ -9,7 +9,7 @@ use Rattle.tp_hunks.specs.declared.trimming.Hunk.{Hunk}
 use Rattle.tp_hunks.proofs.LineLists.{texts}
 
 -- the lines of a hunk, which are lent
-lent_lines : (at len : ℕ) (xs : List (Bor (List ℕ))) → texts (lines_at at len xs) ≡ lines_at at len (texts xs)
+pub lent_lines : (at len : ℕ) (xs : List (Bor (List ℕ))) → texts (lines_at at len xs) ≡ lines_at at len (texts xs)
 lent_lines at len xs = sym (take-map (λ (l : Bor (List ℕ)). l.now) len (drop at xs)) ∙ ap (take len) (sym (drop-map (λ (l : Bor (List ℕ)). l.now) at xs))
 
 pub hunk_joined : (text before first : List ℕ) (old new gone come : List (Bor (List ℕ))) (h : Hunk)

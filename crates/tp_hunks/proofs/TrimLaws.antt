@@ -68,7 +68,7 @@ pub record HasParts (gone come : List (List ℕ)) : Type 0 where
 by_end : (L : List (List ℕ)) (s : ℕ) → L ≡ reverse (drop s (reverse L)) ++ reverse (take s (reverse L))
 by_end L s = sym (reverse-reverse L) ∙ (ap reverse (sym (take-append-drop s (reverse L))) ∙ reverse-append (take s (reverse L)) (drop s (reverse L)))
 
-parts_of : (gone come : List (List ℕ)) → HasParts gone come
+pub parts_of : (gone come : List (List ℕ)) → HasParts gone come
 parts_of gone come =
     let p = same_start gone come in
     let a = drop p gone in
@@ -150,21 +150,21 @@ hunk_first least i j end end' A B stay front less_gone less_come back X Y h rest
           lines_later back 1 1 (h.old_at + h.old_len) (h.new_at + h.new_len) end end' X Y rest (omega arith) oe ne leads,
         )
 
--- the hunk of a group before those of the others
-group_first : (least i j : ℕ) (A B stay gone come X Y : List (List ℕ)) (g : Touched) (rest : List Hunk) → HasParts gone come
+-- the hunk of a group whose lines end at these places, before those of the others
+pub group_at : (least i j end end' : ℕ) (A B stay gone come X Y : List (List ℕ)) (g : Touched) (rest : List Hunk) → HasParts gone come
     → A ≡ stay ++ (gone ++ X) → B ≡ stay ++ (come ++ Y) → least ≤ length stay
-    → g.old_first ≡ i + length stay → g.old_last + 1 ≡ g.old_first + length gone
-    → g.new_first ≡ j + length stay → g.new_last + 1 ≡ g.new_first + length come
-    → LeadsLines 1 (g.old_last + 1) (g.new_last + 1) X Y rest
+    → g.old_first ≡ i + length stay → end ≡ g.old_first + length gone
+    → g.new_first ≡ j + length stay → end' ≡ g.new_first + length come
+    → LeadsLines 1 end end' X Y rest
     → LeadsLines least i j A B (hunk_if_any (hunk_of g gone come) ++ rest)
-group_first least i j A B stay gone come X Y g rest w a b few of ol nf nl leads =
+group_at least i j end end' A B stay gone come X Y g rest w a b few of ol nf nl leads =
     let old = ap length w.gone_is ∙ length-append w.front (w.less_gone ++ w.back) in
     let old' = length-append w.less_gone w.back in
     let new = ap length w.come_is ∙ length-append w.front (w.less_come ++ w.back) in
     let new' = length-append w.less_come w.back in
     let front = w.front_len in
     let back = w.back_len in
-    hunk_first least i j (g.old_last + 1) (g.new_last + 1) A B stay w.front w.less_gone w.less_come w.back X Y (hunk_of g gone come) rest
+    hunk_first least i j end end' A B stay w.front w.less_gone w.less_come w.back X Y (hunk_of g gone come) rest
     (a ∙ ap (λ l. stay ++ (l ++ X)) w.gone_is) (b ∙ ap (λ l. stay ++ (l ++ Y)) w.come_is) few
     (omega arith) (omega arith) (omega arith) (omega arith) (omega arith) (omega arith) leads
 
@@ -178,7 +178,7 @@ groups_lead O N (g ∷ gs) least i j A B a b leads =
     let rest = groups_lead O N gs 1 (g.old_last + 1) (g.new_last + 1) leads.3 leads.4 old.1 new.1 leads.12 in
     subst (λ (gone : List (List ℕ)). LeadsLines least i j A B (hunk_if_any (hunk_of g gone (lines_up_to g.new_first g.new_last N)) ++ hunks_of_groups O N gs)) (sym old.0)
     (subst (λ (come : List (List ℕ)). LeadsLines least i j A B (hunk_if_any (hunk_of g leads.1 come) ++ hunks_of_groups O N gs)) (sym new.0)
-    (group_first least i j A B leads.0 leads.1 leads.2 leads.3 leads.4 g (hunks_of_groups O N gs) (parts_of leads.1 leads.2)
+    (group_at least i j (g.old_last + 1) (g.new_last + 1) A B leads.0 leads.1 leads.2 leads.3 leads.4 g (hunks_of_groups O N gs) (parts_of leads.1 leads.2)
     leads.5 leads.6 leads.7 leads.8 leads.9 leads.10 leads.11 rest))
 
 pub groups_same : (A A' B B' : List (List ℕ)) (gs gs' : List Touched) → A ≡ A' → B ≡ B' → gs ≡ gs' → hunks_of_groups A B gs ≡ hunks_of_groups A' B' gs'

@@ -5,7 +5,7 @@ use Rattle.std.specs.Str.{bytes_eq}
 use Rattle.tp_hunks.specs.declared.replacing.Replacement.{Replacement}
 use Rattle.tp_hunks.specs.declared.touching.Touched.{Touched}
 use Rattle.tp_hunks.specs.declared.trimming.Hunk.{Hunk}
-use Rattle.tp_hunks.specs.Lines.{lines_of_text, steps_of}
+use Rattle.tp_hunks.specs.Lines.{file_lines, lines_of_text, steps_of}
 use Rattle.tp_hunks.specs.Touching.{AllAmong, lines_at_start, touched_lines}
 
 -- The hunks lead from the lines A of the old text to B of the new one, which come after i and j lines: each changes
@@ -69,3 +69,9 @@ pub record AreHunks (old new : List ℕ) (rs : List Replacement) (hunks : List H
   pub none : old ≡ new → hunks ≡ []
   pub groups : ¬ (old ≡ new) → hunks ≡ hunks_of_groups (lines_of_text old) (lines_of_text new) (touched_lines (steps_of old 0 rs))
   pub among : AllAmong lines_at_start (steps_of old 0 rs) (touched_lines (steps_of old 0 rs))
+
+-- The hunks from the old text to the new one as files have lines. Their lines are those that replacements touch, as above, and
+-- whoever takes the old lines of each out and puts the new ones in gets the new text's lines of the old text's.
+pub record AreFileHunks (old new : List ℕ) (rs : List Replacement) (hunks : List Hunk) : Type 0 where
+  pub leads : LeadsLines 0 0 0 (file_lines old) (file_lines new) hunks
+  pub groups : hunks ≡ hunks_of_groups (file_lines old) (file_lines new) (touched_lines (steps_of old 0 rs))

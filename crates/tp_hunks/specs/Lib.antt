@@ -2,3 +2,4 @@ pub mod Lines
 pub mod Touching
 pub mod Hunks
 pub mod Printing
+pub mod Unified

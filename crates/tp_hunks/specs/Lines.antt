@@ -1,6 +1,6 @@
 -- Lines of a text, and replacements in one. A text is the list of its characters.
-use Rattle.std.specs.Prelude.{◌≡◌, ℕ, ◌+◌, ◌-◌, ◌==◌, Bool, List, [], ◌∷◌, ◌++◌, length, take, drop}
-use Rattle.std.specs.List.{count_by, slice_split, sum_by}
+use Rattle.std.specs.Prelude.{◌≡◌, ℕ, ◌+◌, ◌-◌, ◌==◌, Bool, false, Option, Some, None, List, [], ◌∷◌, ◌++◌, length, take, drop, cond, slice_get}
+use Rattle.std.specs.List.{count_by, onto_first, slice_split, sum_by}
 use Rattle.tp_hunks.specs.declared.replacing.Replacement.{Replacement}
 use Rattle.tp_hunks.specs.declared.replacing.Step.{Step}
 
@@ -10,6 +10,24 @@ is_newline ch = ch == 10
 -- the lines of a text: what its newlines part, so that the last one is empty where the text ends in a newline
 abbrev pub lines_of_text : List ℕ → List (List ℕ)
 lines_of_text t = slice_split is_newline t
+
+-- the lines of a text as files have them: each ends in its newline, except the last one where the text doesn't end in one
+abbrev pub file_lines : List ℕ → List (List ℕ)
+file_lines [] = []
+file_lines (ch ∷ t) = cond (is_newline ch) ((ch ∷ []) ∷ file_lines t) (onto_first ch (file_lines t))
+
+-- how many characters the first of these lines has
+abbrev pub line_len : List ℕ → ℕ
+line_len [] = 0
+line_len (ch ∷ t) = cond (is_newline ch) 1 (1 + line_len t)
+
+abbrev pub is_some_newline : Option ℕ → Bool
+is_some_newline None = false
+is_some_newline (Some ch) = is_newline ch
+
+-- the line ends in a newline
+abbrev pub has_end : List ℕ → Bool
+has_end line = is_some_newline (slice_get line (length line - 1))
 
 abbrev pub newline_count : List ℕ → ℕ
 newline_count t = count_by is_newline t

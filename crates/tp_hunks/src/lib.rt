@@ -7,7 +7,9 @@ mod replacing;
 mod text_lines;
 mod touching;
 mod trimming;
+mod unified;
 
 pub use printing::hunk_text;
 pub use replacing::Replacement;
-pub use trimming::{Hunk, hunks};
+pub use trimming::{Hunk, file_hunks, hunks};
+pub use unified::unified_text;

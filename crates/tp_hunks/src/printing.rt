@@ -4,14 +4,23 @@ ghost use Rattle.std.specs.Prelude.{◌≡◌, ◌++◌, IfOk, OnOk, encode_utf8
 ghost use Rattle.std.specs.List.{flat_map};
 ghost use Rattle.std.specs.String.{string_bytes};
 ghost use Rattle.tp_hunks.specs.Lines.{lines_of_text};
-ghost use Rattle.tp_hunks.specs.Printing.{first_number as number_of_first, hunk_lines as lines_of_hunk, place_text as text_of_place, places_line as line_of_places, signed_line};
+ghost use Rattle.tp_hunks.specs.Printing.{first_number as number_of_first, hunk_lines as lines_of_hunk, place_text as text_of_place, places_line as line_of_places, ranges_line as line_of_ranges, signed_line};
 
 use crate::text_lines::{lines, lines_at};
 use crate::trimming::Hunk;
 use std::alloc::{AllocError, Global};
 
-// Puts the characters after the text.
-fn put_chars(text: &mut String, line: &[char]) -> Result<(), AllocError>
+/// Lines of a text.
+#[derive(Clone, Copy)]
+pub(crate) struct Range {
+    /// How many lines come before them.
+    pub at: usize,
+    /// How many they are.
+    pub len: u128,
+}
+
+/// Puts the characters after the text.
+pub(crate) fn put_chars(text: &mut String, line: &[char]) -> Result<(), AllocError>
     ensures { OnOk result
         (string_bytes text.new ≡ string_bytes text.old ++ flat_map encode_utf8 line.now) }
 {
@@ -43,27 +52,43 @@ fn put_lines(text: &mut String, sign: &str, lines: &[&[char]]) -> Result<(), All
 }
 
 // The number of the first of `len` lines.
-fn first_number(at: usize, len: usize) -> u128
+fn first_number(at: usize, len: u128) -> u128
     ensures { result ≡ number_of_first at len }
 {
     if len == 0 { at as u128 } else { at as u128 + 1 }
 }
 
-// The number of the first of `len` lines, and how many they are.
-fn place_text(alloc: Global, at: usize, len: usize) -> Result<String, AllocError>
-    ensures { IfOk result (λ t. string_bytes t ≡ text_of_place at len) }
+// The number of the first of the lines, and how many they are.
+fn range_text(alloc: Global, range: &Range) -> Result<String, AllocError>
+    ensures { IfOk result (λ t. string_bytes t ≡ text_of_place range.now.at range.now.len) }
 {
-    let first = first_number(at, len);
+    let first = first_number(range.at, range.len);
+    let len = range.len;
     format!(in alloc; "{first},{len}")
+}
+
+/// The line of the places of some lines in an old text and in a new one.
+pub(crate) fn ranges_line(alloc: Global, old: &Range, new: &Range) -> Result<String, AllocError>
+    ensures { IfOk result (λ l. string_bytes l ≡ line_of_ranges old.now new.now) }
+{
+    let old = range_text(alloc, old)?;
+    let new = range_text(alloc, new)?;
+    format!(in alloc; "@@ -{old} +{new} @@\n")
 }
 
 // The line of the places of a hunk.
 fn places_line(alloc: Global, hunk: &Hunk) -> Result<String, AllocError>
     ensures { IfOk result (λ l. string_bytes l ≡ line_of_places hunk.now) }
 {
-    let old = place_text(alloc, hunk.old_at, hunk.old_len)?;
-    let new = place_text(alloc, hunk.new_at, hunk.new_len)?;
-    format!(in alloc; "@@ -{old} +{new} @@\n")
+    let old = Range {
+        at: hunk.old_at,
+        len: hunk.old_len as u128,
+    };
+    let new = Range {
+        at: hunk.new_at,
+        len: hunk.new_len as u128,
+    };
+    ranges_line(alloc, &old, &new)
 }
 
 // The lines of a hunk.

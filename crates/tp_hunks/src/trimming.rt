@@ -2,10 +2,10 @@
 
 ghost use Rattle.std.specs.Prelude.{◌≡◌, ◌++◌, IfOk, OnOk, map};
 ghost use Rattle.tp_hunks.specs.Lines.{LeadsText};
-ghost use Rattle.tp_hunks.specs.Hunks.{AreHunks, hunk_if_any, hunk_of as hunk_of_lines, hunks_of_groups, lines_up_to as lines_through};
+ghost use Rattle.tp_hunks.specs.Hunks.{AreFileHunks, AreHunks, hunk_if_any, hunk_of as hunk_of_lines, hunks_of_groups, lines_up_to as lines_through};
 
 use crate::replacing::{Replacement, steps};
-use crate::text_lines::{lines, lines_up_to, same_end, same_start};
+use crate::text_lines::{file_lines, lines, lines_up_to, same_end, same_start};
 use crate::touching::{Touched, touched_lines};
 use std::alloc::{AllocError, Global};
 
@@ -89,5 +89,26 @@ pub fn hunks(
     let groups = touched_lines(alloc, &steps)?;
     let old_lines = lines(alloc, old)?;
     let new_lines = lines(alloc, new)?;
+    hunks_in(alloc, &old_lines, &new_lines, &groups)
+}
+
+/// The hunks from an old text to a new one as files have lines: each line ends in its newline, except the last one where the
+/// text doesn't end in one. So there is no empty line after a last newline, and a last line that gets a newline changes. They
+/// are of lines that replacements touch, as [`hunks`] says, and none where the texts are the same.
+///
+/// A pass over both texts.
+pub fn file_hunks(
+    alloc: Global,
+    old: &[char],
+    new: &[char],
+    replacements: &[Replacement],
+) -> Result<Vec<Hunk>, AllocError>
+    requires { LeadsText old.now new.now 0 replacements.now }
+    ensures { IfOk result (λ hunks. AreFileHunks old.now new.now replacements.now hunks.items) }
+{
+    let steps = steps(alloc, old, new, replacements)?;
+    let groups = touched_lines(alloc, &steps)?;
+    let old_lines = file_lines(alloc, old)?;
+    let new_lines = file_lines(alloc, new)?;
     hunks_in(alloc, &old_lines, &new_lines, &groups)
 }

@@ -14,7 +14,7 @@ ghost use Rattle.tp_disk.specs.DiskView.{ChangesFile, OfFile};
 ghost use Rattle.tp_disk.specs.Opening.{CutsFile, MayCutFile};
 ghost use Rattle.tp_program.specs.Lines.{IsEditLine, IsMergeLine, IsNewLine, made_line as line_of_made};
 ghost use Rattle.tp_report.specs.Names.{WasMade, output_of_made};
-ghost use Rattle.tp_program.specs.Output.{CutsFor, IsFilesPrinted, IsLogPrinted, IsShown, RefusesCheckOutput, RefusesFilesOutput, RefusesRecoveryOutput, RefusesScriptOutput, MayCutFor};
+ghost use Rattle.tp_program.specs.Output.{CutsFor, IsFilesPrinted, IsLogPrinted, IsShown, RefusesCheckOutput, RefusesFilesOutput, RefusesRecoveryOutput, RefusesScriptOutput, MayCutFor, form_of as form_asked};
 ghost use Rattle.tp_report.specs.Telling.{GrowsBy, RefusesPrinting};
 ghost use Rattle.tp_program.specs.Rescuing.{IsChecked, OfOthers};
 ghost use Rattle.tp_report.specs.JobError.{IsAllSaid};
@@ -26,9 +26,9 @@ use std::alloc::Global;
 use std::io::{BufReader, Read, Write};
 use tp_command_line::{FileJob, Inserted};
 use tp_commands::{
-    CommandError, begin, cursor_line, diff_lines, edit, graph_lines, hash_line, head_lines,
-    id_line, log_lines, merge, pretty_lines, raw_text, reopen, saved_file, status_lines,
-    text_in_file, text_line,
+    CommandError, DiffForm, begin, cursor_line, diff_lines, edit, graph_lines, hash_line,
+    head_lines, id_line, log_lines, merge, pretty_lines, raw_text, reopen, saved_file,
+    status_lines, text_in_file, text_line,
 };
 use tp_disk::{Disk, Opened, draw, draw_actor, generator, put_new, replace};
 use tp_document::Document;
@@ -115,7 +115,12 @@ pub fn carry_out<D: Disk + AllocGlobal, I: Read, W: Write>(
         FileJob::Heads { file } => put(out, heads(rt, file)),
         FileJob::Log { file, pretty, most } => put(out, log(rt, file, pretty, most)),
         FileJob::Graph { file } => put(out, graph(rt, file)),
-        FileJob::Diff { file, from, to } => put(out, diff(rt, file, &from, &to)),
+        FileJob::Diff {
+            file,
+            from,
+            to,
+            context,
+        } => put(out, diff(rt, file, &from, &to, &form_of(file, context))),
         FileJob::Status { file } => put(out, status(rt, file)),
         FileJob::Cursor { file, at, heads } => put(out, cursor(rt, file, at as usize, &heads)),
         FileJob::Check { file } => check_file(rt, file, out),
@@ -225,16 +230,30 @@ fn graph<D: Disk + AllocGlobal>(rt: &D, file: &str) -> Result<String, CommandErr
     graph_lines(rt.alloc(), rt.recover(file)?)
 }
 
+// How `diff` prints.
+fn form_of<'a>(file: &'a str, context: Option<u64>) -> DiffForm<'a>
+    ensures { result ≡ form_asked file context }
+{
+    match context {
+        Some(lines) => DiffForm::Unified {
+            file,
+            context: lines as usize,
+        },
+        None => DiffForm::Lines,
+    }
+}
+
 fn diff<D: Disk + AllocGlobal>(
     rt: &D,
     file: &str,
     from: &[Hash],
     to: &[Hash],
+    form: &DiffForm,
 ) -> Result<String, CommandError>
     ensures { IfOk result (λ l. OfFile (D.saw rt.now) file.now
-        (λ journal. IsDiff journal from.now to.now (string_bytes l))) }
+        (λ journal. IsDiff form.now journal from.now to.now (string_bytes l))) }
 {
-    diff_lines(rt.alloc(), rt.recover(file)?, from, to)
+    diff_lines(rt.alloc(), rt.recover(file)?, from, to, form)
 }
 
 fn status<D: Disk + AllocGlobal>(rt: &D, file: &str) -> Result<String, CommandError>

@@ -4,4 +4,5 @@ use Rattle.tp_command_line.proofs.definition.diff_command.Goals as goal
 pub returns : goal.returns
 returns c =
     let with1 = argument_added _ _ _ c.hashes.result c.in_ok-arg.field-0 c.in_ok-file_command.ensures c.hashes.ensures.rule c.hashes.ensures.local c.in_ok-arg.ensures in
-    IfOk-map c.arg-2.result _ _ (λ r added. argument_added _ _ _ c.later_heads.result r with1 c.later_heads.ensures.rule c.later_heads.ensures.local added) c.arg-2.ensures
+    let with2 = argument_added _ _ _ c.later_heads.result c.in_ok-arg-2.field-0 with1 c.later_heads.ensures.rule c.later_heads.ensures.local c.in_ok-arg-2.ensures in
+    IfOk-map c.arg-3.result _ _ (λ r added. argument_added _ _ _ c.context.result r with2 c.context.ensures.rule c.context.ensures.local added) c.arg-3.ensures
