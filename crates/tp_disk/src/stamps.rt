@@ -30,7 +30,7 @@ impl Stamp {
     }
 
     /// Whether this is the same file as then, and no shorter.
-    pub(crate) fn is_kept_of(&self, then: &Stamp) -> bool {
+    pub fn is_kept_of(&self, then: &Stamp) -> bool {
         self.file == then.file && self.length >= then.length
     }
 }

@@ -3,4 +3,5 @@ pub mod ServedLines
 pub mod SessionLaws
 pub mod FollowLaws
 pub mod PageLines
+pub mod WatchLaws
 pub mod PartLaws

@@ -1,3 +1,4 @@
 pub mod Network
+pub mod Watching
 pub mod Sessions
 pub mod Showing

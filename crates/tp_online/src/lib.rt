@@ -11,6 +11,7 @@ mod paging;
 mod seating;
 mod serving;
 mod streaming;
+mod watching;
 
 pub use following::{Following, follow_file};
 pub use paging::web_file;

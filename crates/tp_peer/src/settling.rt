@@ -19,6 +19,8 @@ impl<J: Journal> Peer<J> {
         ensures settled { OnOk result
             (IsDurable J.content J.device J.is_settled (journal_of self.new)) }
         ensures ok { OnOk result (self.new ≡ self.old) }
+        ensures stays { self.new
+            ≡ record self.old { device = self.new.device; stopped = self.new.stopped } }
         ensures err { (link : ℕ) → IfErr result
             (λ e. PeerStep self.old (Generate link) (Refused e) self.new) }
     {

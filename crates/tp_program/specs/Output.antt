@@ -31,7 +31,7 @@ use Rattle.tp_program.specs.Files.{IsLoaded, IsRecoveryOutput, OfGiven, OfInsert
 use Rattle.tp_program.specs.Lines.{AreImportLines, AreUpdateLines, IsEditLine, IsMergeLine, IsNewLine}
 use Rattle.tp_program.specs.Rescuing.{IsChecked}
 use Rattle.tp_report.specs.JobError.{IsOfOutput, io_failure}
-use Rattle.tp_report.specs.Telling.{GrowsBy, GrowsPart, RefusesPrinting, Reports}
+use Rattle.tp_report.specs.Telling.{GrowsBy, GrowsPart, RefusesPrinting}
 use Rattle.tp_online.specs.Network.{AreFrames, IsPageShown, IsServeOutput, IsSynced}
 use Rattle.tp_online.specs.Sessions.{HasMet, IsFollowed, ReportsEach}
 
@@ -140,13 +140,13 @@ abbrev pub WasHeld : (DiskView → Type 0) → Job → Option ℕ → Type 0
 WasHeld saw (Session file is_client key) reported = (n : ℕ) × (reported ≡ Some n) × (p' : PeerState) × HasMet saw file.now key (side_of is_client) n p'
 WasHeld saw job reported = Unit {0}
 
--- What the error stream holds of what a job reports before it ends: of a server and a page, once they listen, what was
--- cut off; of one that follows, what was cut off, after each session.
+-- What the error stream holds of what a job reports before it ends: of a server and a page what was cut off, each time that the
+-- journal was opened; of one that follows, what was cut off, after each session.
 abbrev pub ReportsEarly : (DiskView → Type 0) → Job → Option (List ℕ) → Option (List ℕ) → Type 0
 ReportsEarly saw (Serve file addr sessions workers patience is_verbose key) before after =
-    (cut : Option ℕ) × MayCutFile saw file.now cut × Reports file.now cut None before after
+    (cuts : List (Option ℕ)) × ReportsEach saw file.now cuts before after
 ReportsEarly saw (Web file hosting key) before after =
-    (cut : Option ℕ) × MayCutFile saw file.now cut × Reports file.now cut None before after
+    (cuts : List (Option ℕ)) × ReportsEach saw file.now cuts before after
 ReportsEarly saw (Follow file addr every sessions patience key) before after =
     (cuts : List (Option ℕ)) × ReportsEach saw file.now cuts before after
 ReportsEarly saw job before after = Keeps before after

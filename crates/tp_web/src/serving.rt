@@ -290,7 +290,8 @@ fn welcome<
 /// in a thread of its own, and 64 more threads read requests.
 ///
 /// A window that asks for nothing for 20 seconds is pinged, and ends where it doesn't answer that for another 20; pings of its own
-/// count for nothing. One that doesn't take an answer for two minutes ends too. Each ends alone. The edits of each window are those
+/// count for nothing. One that doesn't take an answer for two minutes ends too, and each ends once the peer has stopped: with its
+/// next request or pong. Each ends alone. The edits of each window are those
 /// of an actor of its own, which is drawn from the key by the number of its connection, or of an earlier one of these that its page
 /// names. So a page that was cut off goes on under its actor: an edit of which it doesn't know whether it came may be sent again,
 /// and is made once.

@@ -82,6 +82,34 @@ impl<J: Journal> Visitor<J> for Asked<'_> {
     ghost serves = { λ asked p p' done n. let k = edits_keep asked.window.now.actor p p' done in record { id = k.1.id; actor = k.1.actor; new = k.1.new; applied = k.1.applied; links = λ m other. k.1.others m refl } };
 }
 
+// Asks whether the peer still runs, for a window.
+struct Pulse<'a> {
+    window: &'a Window,
+}
+
+impl<J: Journal> Visitor<J> for Pulse<'_> {
+    ghost use Rattle.std.proofs.Common.{refl};
+    ghost use Rattle.tp_window.proofs.KeepLaws.{edits_keep};
+
+    type Answer = bool;
+
+    ghost does = { λ pulse p p'. MayEdit pulse.window.now.actor p p' };
+
+    fn visit(&self, peer: &mut Peer<J>) -> bool {
+        !peer.is_stopped()
+    }
+
+    ghost serves = { λ pulse p p' done n. let k = edits_keep pulse.window.now.actor p p' done in record { id = k.1.id; actor = k.1.actor; new = k.1.new; applied = k.1.applied; links = λ m other. k.1.others m refl } };
+}
+
+// Whether the peer still runs, which is asked on a turn of the seat.
+fn runs<R: Wait, J: Journal>(rt: &R, window: &Window, served: &Served<J>, seat: &mut Seat) -> bool
+    requires { seat.old.served ≡ served.now.served }
+    ensures { Attends seat.old seat.new }
+{
+    served.visit(rt, seat, &Pulse { window })
+}
+
 // Answers one request on a turn of the seat. `None` where there is no memory for an answer.
 fn answer<R: Wait + Clock, J: Journal>(
     rt: &R,
@@ -143,7 +171,7 @@ fn send<R: Eprint, S: Read + Write + Drop>(
     }
 }
 
-// Reads one message, and answers it if it is a request. Whether the window goes on.
+// Reads one message, and answers it if it is a request. Whether the window goes on: not once the peer has stopped.
 #[tactic(auto, using(crate::proofs::Attending::stays))]
 fn answer_next<R: Wait + Clock + Eprint, S: Read + Write + OpenStream + Drop, J: Journal>(
     rt: &R,
@@ -160,7 +188,7 @@ fn answer_next<R: Wait + Clock + Eprint, S: Read + Write + OpenStream + Drop, J:
         return false;
     };
     let Message::Text(request) = &message else {
-        return true;
+        return runs(rt, window, served, seat);
     };
     match answer(rt, alloc, window, request.as_str(), served, seat) {
         Some(said) => send(rt, alloc, socket, window, said),

@@ -1,6 +1,6 @@
 //! Requests as they come, and answers as they go: JSON.
 
-ghost use Rattle.std.specs.Prelude.{◌≡◌, IfErr, IfOk, None};
+ghost use Rattle.std.specs.Prelude.{◌≡◌, IfErr, IfOk, None, OnOk, false};
 ghost use Rattle.tp_window.specs.Outcomes.{AnswersRequest, ComesTo, IsTypedEdit, ShowsOutcome};
 ghost use Rattle.tp_window.specs.Refusing.{RefusesRequest};
 ghost use Rattle.tp_window.specs.Requests.{DoesRequest, MayDo, MayEditAs, RefusesEditAs};
@@ -17,7 +17,7 @@ use std::alloc::{AllocError, Global};
 use tp_document::Document;
 use tp_journal::Journal;
 use tp_opid::Hash;
-use tp_peer::{Peer, PeerSequence};
+use tp_peer::{EditAtError, Peer, PeerError, PeerSequence};
 
 /// What is said to a page.
 #[derive(Drop)]
@@ -152,7 +152,8 @@ impl Window {
         }
     }
 
-    // Reads what is asked, does it, and writes what it comes to. With the text are the heads of its number, if any.
+    // Reads what is asked, does it, and writes what it comes to. With the text are the heads of its number, if any. A peer that has
+    // stopped does nothing.
     fn answer_text<J: Journal>(
         &self,
         alloc: Global,
@@ -161,8 +162,12 @@ impl Window {
         request: &str,
     ) -> Result<(String, Option<Vec<Hash>>), WindowError>
         ensures does { MayDo self.now time peer.old peer.new }
+        ensures runs { OnOk result (peer.old.stopped ≡ false) }
         ensures answered { IfOk result (λ said. AnswersRequest self.now time peer.old peer.new said.1) }
     {
+        if peer.is_stopped() {
+            return Err(WindowError::Edit(EditAtError::Peer(PeerError::Stopped)));
+        }
         let request = request_of(alloc, request)?;
         let outcome = self.does(alloc, peer, time, &request)?;
         let text = json_of(alloc, &self.answer_of(alloc, peer.document(), &outcome)?)?;
@@ -171,7 +176,7 @@ impl Window {
     }
 
     /// Answers a request of the page, which is a JSON text; its edits are made at the time, in seconds after 1970 began. A
-    /// refusal is an answer too, and the last one. Where the answer has a number, its heads are given to
+    /// refusal is an answer too, and the last one: of a peer that has stopped each request gets one. Where the answer has a number, its heads are given to
     /// [`remember`](Window::remember) before it is sent, and are kept under it then. The only error is that there is no memory for an
     /// answer.
     pub fn answer<J: Journal>(
@@ -183,6 +188,7 @@ impl Window {
     ) -> Result<Said, AllocError>
         ensures edits { MayEdit self.now.actor peer.old peer.new }
         ensures does { MayDo self.now time peer.old peer.new }
+        ensures runs { IfOk result (λ said. said.refusal ≡ None → peer.old.stopped ≡ false) }
         ensures answered { IfOk result (λ said. said.refusal ≡ None
             → AnswersRequest self.now time peer.old peer.new said.heads) }
     {

@@ -1,0 +1,31 @@
+-- Looks at a served peer, one after another.
+use Rattle.std.proofs.Common.{◌≡◌, ◌≢◌, ◌∙◌, ap, refl, sym, ℕ, [], ◌∷◌, ◌++◌, append-nil, List}
+use Rattle.tp_layout.specs.declared.parts.ChangeParts.{ChangeParts}
+use Rattle.tp_list.proofs.TraceLaws.{trace_join}
+use Rattle.tp_peer.specs.Links.{known_of}
+use Rattle.tp_peer.specs.PeerState.{PeerState}
+use Rattle.tp_served.specs.Seats.{SeatState, Visits}
+use Rattle.tp_served.specs.Steps.{StepsAsSeat}
+use Rattle.tp_online.specs.Watching.{IsLookedAt, LooksOnce, Watches}
+
+-- a look is a turn of any seat
+pub a_look_serves : (p p' : PeerState) → IsLookedAt p p' → (n : ℕ) → StepsAsSeat n p p'
+a_look_serves p p' looked n = record {
+  id = ap (λ (q : PeerState). q.id) looked;
+  actor = ap (λ (q : PeerState). q.actor) looked;
+  new = [];
+  applied = ap (λ (q : PeerState). q.applied) looked ∙ sym (append-nil p.applied);
+  links = λ m other. ap (λ (q : PeerState). known_of q.links m) looked;
+}
+
+-- no look
+pub not_yet : (s : SeatState) → Watches s s
+not_yet s = record { served = refl; times = []; looks = refl }
+
+-- and one more
+pub once_more : (s u v : SeatState) → Watches s u → v.served ≡ u.served → Visits u.state IsLookedAt v.state → Watches s v
+once_more s u v first same looked = record {
+  served = same ∙ first.served;
+  times = first.times ++ tt ∷ [];
+  looks = trace_join LooksOnce s.state first.times u.state (tt ∷ []) v.state first.looks (v.state, looked, refl);
+}

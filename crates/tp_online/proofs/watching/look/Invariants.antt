@@ -1,0 +1,10 @@
+use Rattle.tp_online.specs.Watching.{Watches}
+use Rattle.tp_online.proofs.watching.look.Given as goal
+
+-- the seat went on by the looks so far
+abbrev pub invariant-loop : goal.invariant-loop
+invariant-loop g l = record {
+  can : (goal.iterator-loop g).can_next l.iterator';
+  finite : (goal.iterator-loop g).is_finite l.iterator';
+  watches : Watches l.fn.seat l.seat;
+}

@@ -1,0 +1,183 @@
+//! Watching a peer that is served: whether it runs, and its journal is still where it was, also while nobody asks.
+
+ghost use Rattle.std.specs.Prelude.{◌≡◌};
+ghost use Rattle.tp_online.specs.Watching.{Watches};
+
+use crossbeam_channel::{Receiver, RecvTimeoutError};
+use std::io;
+use std::io::ErrorKind;
+use std::net::{Net, OpenListener, SocketAddr};
+use std::sync::{Mutex, Wait};
+use std::time::{Clock, Duration};
+use tp_journal::Journal;
+use tp_net::reach;
+use tp_peer::Peer;
+use tp_served::{Seat, Served, Visitor};
+
+// This many seconds pass between two looks, and so long a listener has to accept that is to end.
+const EVERY: u64 = 1;
+
+// How far a serving has come.
+#[derive(Clone, Copy)]
+struct Progress {
+    is_due: bool,
+    accepted: u64,
+}
+
+/// The end of a serving, which comes with the end of its peer. Who watches the peer sets it, and the listeners keep to it.
+#[derive(Drop)]
+pub(crate) struct Ending {
+    progress: Mutex<Progress>,
+}
+
+impl Ending {
+    /// It isn't due, and nothing was accepted.
+    pub(crate) fn new() -> Ending {
+        Ending {
+            progress: Mutex::new(Progress {
+                is_due: false,
+                accepted: 0,
+            }),
+        }
+    }
+
+    // From now on nothing more is accepted.
+    fn set<R: Wait>(&self, rt: &R) {
+        self.progress.lock(rt).is_due = true;
+    }
+
+    // Counts a connection, and says whether it is one to be served.
+    fn admits<R: Wait>(&self, rt: &R) -> bool {
+        let mut progress = self.progress.lock(rt);
+        if !progress.is_due {
+            progress.accepted = progress.accepted.saturating_add(1);
+        }
+        !progress.is_due
+    }
+
+    /// Whether it is due.
+    pub(crate) fn is_due<R: Wait>(&self, rt: &R) -> bool {
+        self.progress.lock(rt).is_due
+    }
+
+    /// How many connections were accepted before.
+    pub(crate) fn accepted<R: Wait>(&self, rt: &R) -> u64 {
+        self.progress.lock(rt).accepted
+    }
+}
+
+/// A listener that ends with a serving: the first connection that comes then is closed, and refused as `ConnectionAborted`.
+#[derive(Drop)]
+pub(crate) struct Closable<'a, L: OpenListener, R> {
+    rt: &'a R,
+    listener: L,
+    ending: &'a Ending,
+}
+
+impl<'a, L: OpenListener, R> Closable<'a, L, R> {
+    /// Over the listener.
+    pub(crate) fn new(rt: &'a R, listener: L, ending: &'a Ending) -> Closable<'a, L, R> {
+        Closable {
+            rt,
+            listener,
+            ending,
+        }
+    }
+}
+
+impl<L: OpenListener, R: Wait> OpenListener for Closable<'_, L, R> {
+    type Stream = L::Stream;
+
+    fn accept(&self) -> io::Result<(L::Stream, SocketAddr)> {
+        let (stream, client) = self.listener.accept()?;
+        if !self.ending.admits(self.rt) {
+            drop(stream);
+            return Err(io::Error::from(ErrorKind::ConnectionAborted));
+        }
+        Ok((stream, client))
+    }
+
+    fn local_addr(&self) -> io::Result<SocketAddr> {
+        self.listener.local_addr()
+    }
+}
+
+/// Settles a peer's journal, and answers whether that went well.
+struct Look;
+
+impl<J: Journal> Visitor<J> for Look {
+    ghost use Rattle.tp_online.specs.Watching.{IsLookedAt};
+    ghost use Rattle.tp_online.proofs.WatchLaws.{a_look_serves};
+
+    type Answer = bool;
+
+    ghost does = { λ _ p p'. IsLookedAt p p' };
+
+    fn visit(&self, peer: &mut Peer<J>) -> bool {
+        peer.settle().is_ok()
+    }
+
+    ghost serves = { λ _ p p' looked n. a_look_serves p p' looked n };
+}
+
+// Calls the listener at the address, so that it accepts once more.
+fn call<R: Net>(rt: &R, door: Option<SocketAddr>) {
+    if let Some(door) = door {
+        let _ = reach(rt, door, Some(Duration::from_secs(EVERY)));
+    }
+}
+
+/// Where the listeners of a serving are, as far as the system says.
+#[derive(Clone, Copy)]
+pub(crate) struct Doors {
+    /// The first of them.
+    pub main: Option<SocketAddr>,
+    /// The one beside it, if any.
+    pub beside: Option<SocketAddr>,
+}
+
+// Looks at the served peer each second, until nothing sends to the receiver any more. Where it has stopped, the ending is set, and
+// the listeners are called, again and again: each of them closes what it accepts then, and ends.
+#[tactic(auto, using(crate::proofs::WatchLaws::not_yet, crate::proofs::WatchLaws::once_more))]
+fn look<R: Net + Wait + Clock, J: Journal>(
+    rt: &R,
+    ending: &Ending,
+    doors: Doors,
+    serving: &Receiver<()>,
+    served: &Served<J>,
+    seat: &mut Seat,
+)
+    requires { seat.old.served ≡ served.now.served }
+    ensures { Watches seat.old seat.new }
+{
+    for _ in rt.forever() {
+        match serving.recv_timeout(rt, Duration::from_secs(EVERY)) {
+            Err(RecvTimeoutError::Timeout) => {}
+            _ => break,
+        }
+        if !served.visit(rt, seat, &Look) {
+            ending.set(rt);
+            call(rt, doors.main);
+            call(rt, doors.beside);
+        }
+    }
+}
+
+/// Watches the served peer on the seat, which comes back: until nothing sends to the receiver any more, its journal is settled each
+/// second. A journal that is settled already is looked at alone, by two calls of the system. Where that fails the peer has stopped,
+/// and what is accepted from then on is closed.
+pub(crate) fn watch<R: Net + Wait + Clock, J: Journal>(
+    rt: &R,
+    ending: &Ending,
+    doors: Doors,
+    serving: Receiver<()>,
+    served: &Served<J>,
+    seat: Seat,
+) -> Seat
+    requires { seat.served ≡ served.now.served }
+    ensures { Watches seat result }
+{
+    let mut seat = seat;
+    look(rt, ending, doors, &serving, served, &mut seat);
+    seat
+}
