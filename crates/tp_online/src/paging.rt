@@ -18,7 +18,7 @@ use crate::hosting::{Server, ServerAt, Stage, take_part};
 use crate::listening::{Listening, STOPPED, Source, bind, listen, open_anew};
 use crate::seating::{Seated, end_watched, seat_watched};
 use crate::serving::listening_line;
-use crate::watching::{Closable, Doors, Ending, watch};
+use crate::watching::{Closable, Door, Doors, Ending, watch};
 use crossbeam_channel::Sender;
 use std::alloc::Global;
 use std::fs::OpenFile;
@@ -164,7 +164,7 @@ fn patient_beside<'a, K: Ledger, R: Net + Wait + Clock + Eprint + AllocGlobal>(
     match sessions {
         Some(listener) => {
             let patient = Patient::new(rt, listener, places, KEPT, &Teller);
-            Some(Closable::new(rt, patient, ending))
+            Some(Closable::new(rt, patient, Door::Beside, ending))
         }
         None => None,
     }
@@ -247,7 +247,7 @@ where
     let places = Places::<K>::new(blank, WEB_PLACES);
     let patient = Patient::new(rt, &bound.page, &places, 0, &Teller);
     let closable = Stage {
-        page: Closable::new(rt, patient, ending),
+        page: Closable::new(rt, patient, Door::Main, ending),
         site: &bound.site,
         sessions: patient_beside(rt, &bound.sessions, &places, ending),
     };

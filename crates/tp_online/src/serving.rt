@@ -17,7 +17,7 @@ ghost use Rattle.tp_online.specs.Watching.{Watches};
 use crate::accepting::{SERVE_PLACES, Teller};
 use crate::listening::{Listening, STOPPED, Source, listen, open_anew, open_peer};
 use crate::seating::{Seated, end_watched, hold, seat_watched};
-use crate::watching::{Closable, Doors, Ending, watch};
+use crate::watching::{Closable, Door, Doors, Ending, watch};
 use crossbeam_channel::Sender;
 use std::alloc::Global;
 use std::fs::OpenFile;
@@ -188,7 +188,7 @@ where
         main: patient.local_addr().ok(),
         beside: None,
     };
-    let closable = Closable::new(rt, patient, holding.ending);
+    let closable = Closable::new(rt, patient, Door::Main, holding.ending);
     let listener = &closable;
     let (serving, ended) = crossbeam_channel::unbounded(rt.alloc())?;
     let (held, watched) = thread::join(

@@ -1,6 +1,6 @@
 //! Watching a peer that is served: whether it runs, and its journal is still where it was, also while nobody asks.
 
-ghost use Rattle.std.specs.Prelude.{◌≡◌};
+ghost use Rattle.std.specs.Prelude.{◌≡◌, not};
 ghost use Rattle.tp_online.specs.Watching.{Watches};
 
 use crossbeam_channel::{Receiver, RecvTimeoutError};
@@ -17,11 +17,40 @@ use tp_served::{Seat, Served, Visitor};
 // This many seconds pass between two looks, and so long a listener has to accept that is to end.
 const EVERY: u64 = 1;
 
-// How far a serving has come.
+/// Which listener of a serving it is.
+#[derive(Clone, Copy)]
+pub(crate) enum Door {
+    /// The one that is always there.
+    Main,
+    /// The one beside it.
+    Beside,
+}
+
+// How far a serving has come: whether it is to end, how many connections it accepted before, and which listeners have ended.
 #[derive(Clone, Copy)]
 struct Progress {
     is_due: bool,
     accepted: u64,
+    main_ended: bool,
+    beside_ended: bool,
+}
+
+impl Progress {
+    // Counts a connection at a listener, and says whether it is one to be served. Where it isn't, the listener ends.
+    fn admits(&mut self, door: Door) -> bool
+        ensures admits { result ≡ not self.old.is_due }
+        ensures due { self.new.is_due ≡ self.old.is_due }
+    {
+        if !self.is_due {
+            self.accepted = self.accepted.saturating_add(1);
+            return true;
+        }
+        match door {
+            Door::Main => self.main_ended = true,
+            Door::Beside => self.beside_ended = true,
+        }
+        false
+    }
 }
 
 /// The end of a serving, which comes with the end of its peer. Who watches the peer sets it, and the listeners keep to it.
@@ -37,22 +66,22 @@ impl Ending {
             progress: Mutex::new(Progress {
                 is_due: false,
                 accepted: 0,
+                main_ended: false,
+                beside_ended: false,
             }),
         }
     }
 
-    // From now on nothing more is accepted.
-    fn set<R: Wait>(&self, rt: &R) {
-        self.progress.lock(rt).is_due = true;
+    // From now on nothing more is accepted. Which listeners have ended.
+    fn set<R: Wait>(&self, rt: &R) -> (bool, bool) {
+        let mut progress = self.progress.lock(rt);
+        progress.is_due = true;
+        (progress.main_ended, progress.beside_ended)
     }
 
-    // Counts a connection, and says whether it is one to be served.
-    fn admits<R: Wait>(&self, rt: &R) -> bool {
-        let mut progress = self.progress.lock(rt);
-        if !progress.is_due {
-            progress.accepted = progress.accepted.saturating_add(1);
-        }
-        !progress.is_due
+    // Whether a connection at a listener is one to be served.
+    fn admits<R: Wait>(&self, rt: &R, door: Door) -> bool {
+        self.progress.lock(rt).admits(door)
     }
 
     /// Whether it is due.
@@ -71,15 +100,22 @@ impl Ending {
 pub(crate) struct Closable<'a, L: OpenListener, R> {
     rt: &'a R,
     listener: L,
+    door: Door,
     ending: &'a Ending,
 }
 
 impl<'a, L: OpenListener, R> Closable<'a, L, R> {
     /// Over the listener.
-    pub(crate) fn new(rt: &'a R, listener: L, ending: &'a Ending) -> Closable<'a, L, R> {
+    pub(crate) fn new(
+        rt: &'a R,
+        listener: L,
+        door: Door,
+        ending: &'a Ending,
+    ) -> Closable<'a, L, R> {
         Closable {
             rt,
             listener,
+            door,
             ending,
         }
     }
@@ -90,7 +126,7 @@ impl<L: OpenListener, R: Wait> OpenListener for Closable<'_, L, R> {
 
     fn accept(&self) -> io::Result<(L::Stream, SocketAddr)> {
         let (stream, client) = self.listener.accept()?;
-        if !self.ending.admits(self.rt) {
+        if !self.ending.admits(self.rt, self.door) {
             drop(stream);
             return Err(io::Error::from(ErrorKind::ConnectionAborted));
         }
@@ -102,7 +138,7 @@ impl<L: OpenListener, R: Wait> OpenListener for Closable<'_, L, R> {
     }
 }
 
-/// Settles a peer's journal, and answers whether that went well.
+// Settles a peer's journal, and answers whether that went well.
 struct Look;
 
 impl<J: Journal> Visitor<J> for Look {
@@ -120,13 +156,6 @@ impl<J: Journal> Visitor<J> for Look {
     ghost serves = { λ _ p p' looked n. a_look_serves p p' looked n };
 }
 
-// Calls the listener at the address, so that it accepts once more.
-fn call<R: Net>(rt: &R, door: Option<SocketAddr>) {
-    if let Some(door) = door {
-        let _ = reach(rt, door, Some(Duration::from_secs(EVERY)));
-    }
-}
-
 /// Where the listeners of a serving are, as far as the system says.
 #[derive(Clone, Copy)]
 pub(crate) struct Doors {
@@ -136,8 +165,25 @@ pub(crate) struct Doors {
     pub beside: Option<SocketAddr>,
 }
 
+// Calls the listener at the address, so that it accepts once more, unless it has ended.
+fn call<R: Net>(rt: &R, door: Option<SocketAddr>, has_ended: bool) {
+    match door {
+        Some(door) if !has_ended => {
+            let _ = reach(rt, door, Some(Duration::from_secs(EVERY)));
+        }
+        _ => {}
+    }
+}
+
+// Sets the ending, and calls the listeners that haven't ended.
+fn end<R: Net + Wait>(rt: &R, ending: &Ending, doors: Doors) {
+    let (main_ended, beside_ended) = ending.set(rt);
+    call(rt, doors.main, main_ended);
+    call(rt, doors.beside, beside_ended);
+}
+
 // Looks at the served peer each second, until nothing sends to the receiver any more. Where it has stopped, the ending is set, and
-// the listeners are called, again and again: each of them closes what it accepts then, and ends.
+// the listeners are called: each of them closes what it accepts then, and ends.
 #[tactic(auto, using(crate::proofs::WatchLaws::not_yet, crate::proofs::WatchLaws::once_more))]
 fn look<R: Net + Wait + Clock, J: Journal>(
     rt: &R,
@@ -156,9 +202,7 @@ fn look<R: Net + Wait + Clock, J: Journal>(
             _ => break,
         }
         if !served.visit(rt, seat, &Look) {
-            ending.set(rt);
-            call(rt, doors.main);
-            call(rt, doors.beside);
+            end(rt, ending, doors);
         }
     }
 }
