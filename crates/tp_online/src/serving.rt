@@ -294,7 +294,7 @@ where
         match hold_sessions(rt, holding, peer) {
             Ok(served) => return Ok(served),
             Err(error) => {
-                left = left.saturating_sub(ending.accepted(rt));
+                left = left.saturating_sub(ending.connection_count(rt));
                 if left == 0 {
                     return Err(error);
                 }

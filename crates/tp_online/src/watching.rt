@@ -30,7 +30,7 @@ pub(crate) enum Door {
 #[derive(Clone, Copy)]
 struct Progress {
     is_due: bool,
-    accepted: u64,
+    connections: u64,
     main_ended: bool,
     beside_ended: bool,
 }
@@ -42,7 +42,7 @@ impl Progress {
         ensures due { self.new.is_due ≡ self.old.is_due }
     {
         if !self.is_due {
-            self.accepted = self.accepted.saturating_add(1);
+            self.connections = self.connections.saturating_add(1);
             return true;
         }
         match door {
@@ -65,7 +65,7 @@ impl Ending {
         Ending {
             progress: Mutex::new(Progress {
                 is_due: false,
-                accepted: 0,
+                connections: 0,
                 main_ended: false,
                 beside_ended: false,
             }),
@@ -90,8 +90,8 @@ impl Ending {
     }
 
     /// How many connections were accepted before.
-    pub(crate) fn accepted<R: Wait>(&self, rt: &R) -> u64 {
-        self.progress.lock(rt).accepted
+    pub(crate) fn connection_count<R: Wait>(&self, rt: &R) -> u64 {
+        self.progress.lock(rt).connections
     }
 }
 
