@@ -139,6 +139,7 @@ impl<L: OpenListener, R: Wait> OpenListener for Closable<'_, L, R> {
 }
 
 // Settles a peer's journal, and answers whether that went well.
+#[derive(Clone, Copy)]
 struct Look;
 
 impl<J: Journal> Visitor<J> for Look {

@@ -83,6 +83,7 @@ impl<J: Journal> Visitor<J> for Asked<'_> {
 }
 
 // Asks whether the peer still runs, for a window.
+#[derive(Drop)]
 struct Pulse<'a> {
     window: &'a Window,
 }
