@@ -109,7 +109,7 @@ fn tell_applied<W: Write>(alloc: Global, applied: u64, out: &mut W) -> Result<()
 }
 
 // A listener, how sessions are held with it, how many are still to be held, and their end.
-#[derive(Clone, Copy)]
+#[derive(Drop)]
 struct Holding<'a, L> {
     listener: &'a L,
     how: &'a Serving,
@@ -127,7 +127,7 @@ fn hold_until<
 >(
     rt: &R,
     listener: &L,
-    holding: Holding<'_, M>,
+    holding: &Holding<'_, M>,
     served: &Served<J>,
     seats: Vec<Seat>,
     serving: Sender<()>,
@@ -162,7 +162,7 @@ fn hold_counted<
     J: Journal + Send,
 >(
     rt: &R,
-    holding: Holding<'_, R::Listener>,
+    holding: &Holding<'_, R::Listener>,
     served: &Served<J>,
     seats: Vec<Seat>,
     seat: Seat,
@@ -226,13 +226,13 @@ fn hold_sessions<
     F: Write + OpenFile + Send + Drop,
 >(
     rt: &R,
-    holding: Holding<'_, R::Listener>,
+    holding: &Holding<'_, R::Listener>,
     peer: Peer<DurableJournal<F>>,
 ) -> Result<Peer<DurableJournal<F>>, JobError>
 where
     R::Listener: Sync,
     R::Stream: Send,
-    ensures { IfOk result (λ p. WasServed peer holding.how.now.workers p) }
+    ensures { IfOk result (λ p. WasServed peer holding.now.how.now.workers p) }
 {
     let Seated {
         served,
@@ -291,7 +291,7 @@ where
             left,
             ending: &ending,
         };
-        match hold_sessions(rt, holding, peer) {
+        match hold_sessions(rt, &holding, peer) {
             Ok(served) => return Ok(served),
             Err(error) => {
                 left = left.saturating_sub(ending.connection_count(rt));
