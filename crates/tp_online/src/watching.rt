@@ -186,7 +186,7 @@ fn end<R: Net + Wait>(rt: &R, ending: &Ending, doors: Doors) {
 // Looks at the served peer each second, until nothing sends to the receiver any more. Where it has stopped, the ending is set, and
 // the listeners are called: each of them closes what it accepts then, and ends.
 #[tactic(auto, using(crate::proofs::WatchLaws::not_yet, crate::proofs::WatchLaws::once_more))]
-fn look<R: Net + Wait + Clock, J: Journal>(
+fn keep_watch<R: Net + Wait + Clock, J: Journal>(
     rt: &R,
     ending: &Ending,
     doors: Doors,
@@ -223,6 +223,6 @@ pub(crate) fn watch<R: Net + Wait + Clock, J: Journal>(
     ensures { Watches seat result }
 {
     let mut seat = seat;
-    look(rt, ending, doors, &serving, served, &mut seat);
+    keep_watch(rt, ending, doors, &serving, served, &mut seat);
     seat
 }

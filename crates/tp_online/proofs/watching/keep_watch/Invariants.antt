@@ -1,5 +1,5 @@
 use Rattle.tp_online.specs.Watching.{Watches}
-use Rattle.tp_online.proofs.watching.look.Given as goal
+use Rattle.tp_online.proofs.watching.keep_watch.Given as goal
 
 -- the seat went on by the looks so far
 abbrev pub invariant-loop : goal.invariant-loop
