@@ -46,6 +46,11 @@ fn draw_secret<D: Disk>(rt: &D) -> Result<Secret, CommandError> {
     let drawn = key_or_random(rt, None)?;
     let mut key = [0; 16];
     key.copy_from_slice(&drawn[..16]);
+    with_challenges(rt, key)
+}
+
+// The key of a page, with challenges that were never used.
+fn with_challenges<D: Disk>(rt: &D, key: [u8; 16]) -> Result<Secret, CommandError> {
     let challenges = key_or_random(rt, None)?;
     Ok(Secret { key, challenges })
 }
@@ -93,11 +98,11 @@ fn tell_page<W: Write>(
     put(out, page_lines(alloc, page, key, port))
 }
 
-// What a page's program listens with.
+// What a page's program listens with, and where its page is.
 #[derive(Drop)]
 struct Bound<L: Drop> {
+    at: SocketAddr,
     page: L,
-    site: Site,
     sessions: Option<L>,
 }
 
@@ -114,31 +119,6 @@ fn bound_beside<R: Net>(
             Err(error) => Err(JobError::Unreached(Unreached::by(&error))),
         },
         None => Ok((None, None)),
-    }
-}
-
-// What a page's program listens with, and the port of sessions beside the page, where they are served.
-fn bound_at<R: Net + AllocGlobal>(
-    rt: &R,
-    listener: R::Listener,
-    page: SocketAddr,
-    secret: Secret,
-    serve: Option<Address>,
-) -> Result<(Bound<R::Listener>, Option<u16>), JobError>
-    ensures { IfOk result (λ b. (is_some b.0.sessions ≡ is_some serve.entry)
-        × (is_some b.1 ≡ is_some serve.entry)) }
-{
-    match Site::at(rt.alloc(), page, secret) {
-        Ok(site) => {
-            let (sessions, port) = bound_beside(rt, serve)?;
-            let bound = Bound {
-                page: listener,
-                site,
-                sessions,
-            };
-            Ok((bound, port))
-        }
-        Err(_) => Err(JobError::Command(CommandError::OutOfMemory)),
     }
 }
 
@@ -221,6 +201,7 @@ fn show_counted<
 >(
     rt: &R,
     bound: &Bound<R::Listener>,
+    site: &Site,
     hosting: &Hosting<'_>,
     ending: &Ending,
     served: &Served<J>,
@@ -248,7 +229,7 @@ where
     let patient = Patient::new(rt, &bound.page, &places, 0, &Teller);
     let closable = Stage {
         page: Closable::new(rt, patient, Door::Main, ending),
-        site: &bound.site,
+        site,
         sessions: patient_beside(rt, &bound.sessions, &places, ending),
     };
     let stage = &closable;
@@ -284,8 +265,9 @@ fn show_peer<
     rt: &R,
     bound: &Bound<R::Listener>,
     hosting: &Hosting<'_>,
-    peer: Peer<DurableJournal<F>>,
+    secret: Secret,
     key: [u8; 32],
+    peer: Peer<DurableJournal<F>>,
 ) -> Result<Peer<DurableJournal<F>>, JobError>
 where
     R::Listener: Sync,
@@ -293,6 +275,10 @@ where
     requires { is_some bound.now.sessions ≡ is_some hosting.now.serve }
     ensures { IfOk result (λ p. WasShown hosting.now peer p) }
 {
+    let Ok(site) = Site::at(rt.alloc(), bound.at, secret) else {
+        drop(peer);
+        return Err(JobError::Command(CommandError::OutOfMemory));
+    };
     let Seated {
         served,
         seats,
@@ -302,6 +288,7 @@ where
     match show_counted::<Brand, R, DurableJournal<F>>(
         rt,
         bound,
+        &site,
         hosting,
         &ending,
         &served,
@@ -322,13 +309,14 @@ where
     }
 }
 
-// Shows the peer. Where its journal fails, it is opened anew, and that peer is shown; the actors of its windows are drawn from
-// another key.
+// Shows the peer. Where its journal fails, it is opened anew, and that peer is shown: under the same key, with other challenges, and
+// the actors of its windows are drawn from another key.
 fn show_all<R: Disk + Net + Threads + Wait + Clock + Eprint + AllocGlobal + Sync, E: Write>(
     rt: &R,
     source: &Source<'_>,
     bound: &Bound<R::Listener>,
     hosting: &Hosting<'_>,
+    secret: Secret,
     key: [u8; 32],
     peer: Peer<DurableJournal<R::File>>,
     err: &mut E,
@@ -346,14 +334,16 @@ where
         (E.contents err.old) (E.contents err.new) }
 {
     let mut peer = peer;
+    let mut secret = secret;
     let mut key = key;
     for _ in 0..u64::MAX {
         let stamp = rt.stamp(source.file);
-        match show_peer(rt, bound, hosting, peer, key) {
+        match show_peer(rt, bound, hosting, secret, key, peer) {
             Ok(shown) => return Ok(shown),
             Err(error) => {
-                peer = open_anew(rt, source, &stamp, error, err)?;
+                secret = with_challenges(rt, secret.key)?;
                 key = key_or_random(rt, None)?;
+                peer = open_anew(rt, source, &stamp, error, err)?;
             }
         }
     }
@@ -397,14 +387,21 @@ where
         peer,
     } = listening;
     let page = SocketAddr::new(hosting.page.ip(), port);
-    match bound_at(rt, listener, page, secret, hosting.serve) {
-        Ok((bound, beside)) => match tell_page(rt.alloc(), page, &secret.key, beside, out) {
-            Ok(()) => show_all(rt, source, &bound, hosting, key, peer, err),
-            Err(error) => {
-                drop(peer);
-                Err(error)
+    match bound_beside(rt, hosting.serve) {
+        Ok((sessions, beside)) => {
+            let bound = Bound {
+                at: page,
+                page: listener,
+                sessions,
+            };
+            match tell_page(rt.alloc(), page, &secret.key, beside, out) {
+                Ok(()) => show_all(rt, source, &bound, hosting, secret, key, peer, err),
+                Err(error) => {
+                    drop(peer);
+                    Err(error)
+                }
             }
-        },
+        }
         Err(error) => {
             drop(peer);
             Err(error)
