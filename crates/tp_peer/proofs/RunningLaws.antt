@@ -1,5 +1,5 @@
 -- What a call on the parts of a running peer is to the peer.
-use Rattle.tp_peer.proofs.Common.{◌≡◌, ◌⊎◌, ◌↔◌, inl, inr, DocError, has_all, refusal_of_document, RefusesText, ℕ, List, Bool, true, false, Option, Some, None, Result, Ok, Err, String, Global, refl, sym, subst, ap, ◌∙◌, IfErr, IfOk, Splice, Hash, Actor, DocState, DoesSplices, asking, SyncParts, PeerError, JournalFailed, TooManyLinks, Sync, OutOfMemory, JournalState, StaysUnsettled, IsPeer, PeerState, peer_state, is_failed, stops, Call, PeerStep, Refused, RefusesGenerate, Reply, Runs, needs_stopped, reply_of_result}
+use Rattle.tp_peer.proofs.Common.{◌≡◌, ◌⊎◌, ◌↔◌, inl, inr, DocError, has_all, refusal_of_document, RefusesText, ℕ, List, Bool, true, false, Option, Some, None, Result, Ok, Err, String, Global, refl, sym, subst, ap, ◌∙◌, IfErr, IfOk, IsOkUnless, OnErr, OnOk, Splice, Hash, Actor, DocState, DoesSplices, asking, SyncParts, PeerError, JournalFailed, TooManyLinks, Sync, OutOfMemory, JournalState, StaysUnsettled, IsPeer, PeerState, peer_state, is_failed, stops, Call, PeerStep, Refused, RefusesGenerate, Reply, Runs, needs_stopped, reply_of_result}
 use Rattle.tp_edit.specs.Splices.{all_spliced}
 use Rattle.tp_edit.specs.Text.{IsTextOf}
 use Rattle.tp_document.proofs.EditFits.{edit_text, nothing_spliced}
@@ -94,3 +94,39 @@ edit_does (Ok (Some h)) p p' splices time message peer s = λ t text.
       | inl is ↦ let wrong = is.0 in absurd cc
       | inr runs ↦ subst (λ (q : PeerState). IsTextOf q.applied (all_spliced t splices)) (sym runs.1.3) (edit_text p.applied (asking p.actor splices time message) runs.1.0 t peer.history.sound runs.1.1 text)
     ]
+
+-- ---- settling the journal
+
+module _ {T : Type 0} (q : PeerState) (a : Actor) (d : DocState) (L : List (ℕ × SyncParts)) (k k' : JournalState) (stopped after : Bool) where
+  -- the peer is one then
+  pub settling_leaves : (r : Result T PeerError) → IsPeer (peer_state a d L k stopped) → stopped ≡ false → after ≡ stops r → OnOk r (k' ≡ k) → IsOkUnless r JournalFailed
+      → OnErr r (StaysUnsettled k k') → IsPeer (peer_state a d L k' after)
+  settling_leaves (Ok x) peer running is same only unsettled =
+      subst (λ (j : JournalState). IsPeer (peer_state a d L j after)) (sym same) (subst (λ (b : Bool). IsPeer (peer_state a d L k b)) (running ∙ sym is) peer)
+  settling_leaves (Err e) peer running is same only unsettled =
+      running_leaves_peer a d d L L k k' stopped after true (Generate 0) (Refused JournalFailed) peer running (is ∙ ap is_failed only) (record { unsettled = unsettled; left = refl })
+
+  -- where it was settled it stays as it was
+  pub settling_keeps : (r : Result T PeerError) → peer_state a d L k stopped ≡ q → stopped ≡ false → after ≡ stops r → OnOk r (k' ≡ k) → OnOk r (peer_state a d L k' after ≡ q)
+  settling_keeps (Ok x) view running is same =
+      subst (λ (j : JournalState). peer_state a d L j after ≡ q) (sym same) (subst (λ (b : Bool). peer_state a d L k b ≡ q) (running ∙ sym is) view)
+  settling_keeps (Err e) view running is same = tt
+
+  content_stays : (r : Result T PeerError) → OnOk r (k' ≡ k) → OnErr r (StaysUnsettled k k') → k'.content ≡ k.content
+  content_stays (Ok x) same unsettled = ap (λ (j : JournalState). j.content) same
+  content_stays (Err e) same unsettled = unsettled.content
+
+  -- and in any case but for the device, and whether it has stopped
+  pub settling_stays : (r : Result T PeerError) → peer_state a d L k stopped ≡ q → OnOk r (k' ≡ k) → OnErr r (StaysUnsettled k k')
+      → peer_state a d L k' after ≡ record q { device = k'.device; stopped = after }
+  settling_stays r view same unsettled =
+      subst (λ (x : PeerState). peer_state a d L k' after ≡ record x { device = k'.device; stopped = after }) view
+      (ap (λ (c : List ℕ). record (peer_state a d L k' after) { journal = c }) (content_stays r same unsettled))
+
+  -- where it wasn't, that is a message that wasn't made
+  pub settling_refuses : (r : Result T PeerError) (link : ℕ) → peer_state a d L k stopped ≡ q → stopped ≡ false → after ≡ stops r → IsOkUnless r JournalFailed → OnErr r (StaysUnsettled k k')
+      → IfErr r (λ e. PeerStep q (Generate link) (Refused e) (peer_state a d L k' after))
+  settling_refuses (Ok x) link view running is only unsettled = tt
+  settling_refuses (Err e) link view running is only unsettled =
+      subst (λ (x : PeerError). PeerStep q (Generate link) (Refused x) (peer_state a d L k' after)) (sym only)
+      (running_steps q a d d L L k k' stopped after true (Generate link) (Refused JournalFailed) refl view running (is ∙ ap is_failed only) (record { unsettled = unsettled; left = refl }))

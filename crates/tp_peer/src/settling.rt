@@ -5,7 +5,7 @@ ghost use Rattle.tp_peer.specs.Appending.{IsDurable};
 ghost use Rattle.tp_peer.specs.PeerStep.{PeerStep, Generate, Refused};
 ghost use Rattle.tp_peer.specs.Taking.{journal_of};
 
-use crate::error::PeerError;
+use crate::error::{PeerError, stops};
 use crate::peer::Peer;
 use tp_journal::Journal;
 
@@ -27,12 +27,8 @@ impl<J: Journal> Peer<J> {
         if self.stopped {
             return Err(PeerError::Stopped);
         }
-        match self.appender.settle() {
-            Ok(()) => Ok(()),
-            Err(_) => {
-                self.stopped = true;
-                Err(PeerError::JournalFailed)
-            }
-        }
+        let settled = self.appender.settle();
+        self.stopped = stops(&settled);
+        settled
     }
 }
