@@ -1,5 +1,6 @@
 -- What a call on the parts of a running peer is to the peer.
-use Rattle.tp_peer.proofs.Common.{◌≡◌, ◌⊎◌, ◌↔◌, inl, inr, DocError, has_all, refusal_of_document, RefusesText, ℕ, List, Bool, true, false, Option, Some, None, Result, Ok, Err, String, Global, refl, sym, subst, ap, ◌∙◌, IfErr, IfOk, IsOkUnless, OnErr, OnOk, Splice, Hash, Actor, DocState, DoesSplices, asking, SyncParts, PeerError, JournalFailed, TooManyLinks, Sync, OutOfMemory, JournalState, StaysUnsettled, IsPeer, PeerState, peer_state, is_failed, stops, Call, PeerStep, Refused, RefusesGenerate, Reply, Runs, needs_stopped, reply_of_result}
+use Rattle.tp_peer.proofs.Common.{◌≡◌, ◌⊎◌, ◌↔◌, inl, inr, DocError, has_all, refusal_of_document, RefusesText, ℕ, List, Bool, true, false, Option, Some, None, Result, Ok, Err, String, Global, refl, sym, subst, ap, ◌∙◌, IfErr, IfOk, Splice, Generate, Hash, Actor, DocState, DoesSplices, asking, SyncParts, PeerError, JournalFailed, TooManyLinks, Sync, OutOfMemory, JournalState, StaysUnsettled, IsPeer, PeerState, peer_state, is_failed, stops, Call, PeerStep, Refused, RefusesGenerate, Reply, Runs, needs_stopped, reply_of_result}
+use Rattle.std.specs.Prelude.{IsOkUnless, OnErr, OnOk}
 use Rattle.tp_edit.specs.Splices.{all_spliced}
 use Rattle.tp_edit.specs.Text.{IsTextOf}
 use Rattle.tp_document.proofs.EditFits.{edit_text, nothing_spliced}
