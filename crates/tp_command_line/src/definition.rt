@@ -11,7 +11,7 @@ use std::alloc::{AllocError, Global};
 
 // What is said below the commands. The words that it names are read before the parser has the others.
 const ANYWHERE: &str =
-    "Anywhere before --:\n      --explain  says below a refusal which file it is about and what to do, as always on a terminal\n\n\
+    "Anywhere before --:\n      --explain  adds below a refusal which file it is about and what to do; always on where the standard error is a terminal\n\n\
 `textpeer help COMMAND` is `textpeer COMMAND --help`";
 
 /// The definition of the program's command line.
@@ -39,7 +39,7 @@ fn file_commands<'a>(alloc: Global) -> Result<Command<'a>, AllocError>
             "Writes the document of a journal as a saved file",
             "Example:\n  textpeer save notes.journal notes.saved",
             "OUT",
-            "the saved file; another file there is replaced, and a journal refused",
+            "the saved file; any file of that name is replaced, except a journal",
         ),
     );
     let loaded = with(saved, load_command(alloc));
@@ -80,7 +80,7 @@ fn journal_commands<'a>(alloc: Global) -> Result<Command<'a>, AllocError>
         whole_text_command(
             alloc,
             "import",
-            "Brings the text of a file into a new document, or one without text, and prints the hash of each change",
+            "Brings the text of a file into a new journal, or one that has no text yet, and prints the hash of each change",
             "Example:\n  textpeer import notes.journal notes.txt",
         ),
     );
@@ -90,7 +90,7 @@ fn journal_commands<'a>(alloc: Global) -> Result<Command<'a>, AllocError>
         file_command(
             alloc,
             "heads",
-            "Prints the hashes of the changes on which no other depends",
+            "Prints the heads, the hashes of the changes on which no other depends: they name the state of the text for --since and others",
             "Example:\n  textpeer heads notes.journal",
         ),
     );
@@ -110,7 +110,7 @@ fn journal_commands<'a>(alloc: Global) -> Result<Command<'a>, AllocError>
         file_command(
             alloc,
             "status",
-            "Prints what a journal has: document, changes, authors, characters, heads, bytes; and who has it open",
+            "Prints what a journal has: document, changes, authors, characters, heads, bytes; and which process has it open",
             "Example:\n  textpeer status notes.journal",
         ),
     );
@@ -120,7 +120,7 @@ fn journal_commands<'a>(alloc: Global) -> Result<Command<'a>, AllocError>
         file_command(
             alloc,
             "check",
-            "Says how much of a journal is kept, and what follows that: a fault with its place, and whole changes",
+            "Says how much of a journal is intact, and what follows that: a fault with its place, and whole changes",
             "Example:\n  textpeer check notes.journal",
         ),
     )
@@ -210,7 +210,7 @@ fn key<'a>(alloc: Global) -> Arg<'a>
         alloc,
         "key",
         "HEX",
-        "the key of the random numbers, in 64 hexadecimal digits; from /dev/urandom if left out",
+        "the seed of the random numbers, in 64 hexadecimal digits; from /dev/urandom if left out. It encrypts nothing",
     )
 }
 
@@ -241,7 +241,7 @@ fn text<'a>(alloc: Global) -> Arg<'a>
     ensures rule { rule_of result ≡ option_rule (codes "text") }
     ensures local { result.global ≡ false }
 {
-    let help = "the text that is inserted there; one that begins with - as in --text=-x";
+    let help = "the text that is inserted there; a text that begins with - is written as --text=-x";
     option(alloc, "text", "T", help)
 }
 
@@ -283,7 +283,7 @@ fn workers<'a>(alloc: Global) -> Arg<'a>
         alloc,
         "workers",
         "N",
-        "how many sessions are held at once, 1 to 64",
+        "how many sessions are held at once, 1 to 64; with 64 they are 63",
     )
     .value_parser(ValueParser::unsigned(1, 64))
     .default_value("2")
@@ -351,7 +351,11 @@ fn raw<'a>(alloc: Global) -> Arg<'a>
     ensures rule { rule_of result ≡ flag_rule (codes "raw") }
     ensures local { result.global ≡ false }
 {
-    flag(alloc, "raw", "prints no newline after the text")
+    flag(
+        alloc,
+        "raw",
+        "prints no newline after the text, as for a file that textpeer update reads",
+    )
 }
 
 // How many of the newest changes.
@@ -502,7 +506,7 @@ fn since<'a>(alloc: Global) -> Arg<'a>
         alloc,
         "since",
         "HASH",
-        "the heads at which the file was taken out, as the last words: what came since stays; the text now if left out",
+        "the heads at which the file was taken out, as the last words of the line: what came since stays. If left out, what the file lacks is deleted",
     )
     .num_args(1..)
     .action(ArgAction::Append)
@@ -514,7 +518,7 @@ fn update_command<'a>(alloc: Global) -> Result<Command<'a>, AllocError>
     whole_text_command(
         alloc,
         "update",
-        "Makes the text that of a file, by the differences of both, and prints the hash of each change, or `nothing` where they are equal",
+        "Makes the journal's text equal to that of a file, by the differences between them, and prints the hash of each change, or `nothing` where they are equal",
         "Example:\n  textpeer heads notes.journal >notes.heads\n  textpeer text notes.journal --raw >notes.txt\n  \
          textpeer update notes.journal notes.txt --since $(cat notes.heads)",
     )?
@@ -590,7 +594,7 @@ fn diff_command<'a>(alloc: Global) -> Result<Command<'a>, AllocError>
     file_command(
         alloc,
         "diff",
-        "Prints which lines of an earlier text became which of a later one, as what was typed and deleted says",
+        "Prints which lines of an earlier text became which of a later one, by what was really typed and deleted",
         "Example:\n  textpeer diff notes.journal $(textpeer heads notes.journal)\n  \
          textpeer diff notes.journal $(cat notes.heads) -U 3 | patch notes.txt",
     )?
@@ -636,7 +640,7 @@ fn made_journal<'a>(alloc: Global) -> Arg<'a>
     ensures local { result.global ≡ false }
 {
     Arg::new(alloc, "OUT")
-        .help("the journal that is made; where anything is there it stays")
+        .help("the journal that is made; refused if a file of that name exists")
         .action(ArgAction::Set)
 }
 
@@ -660,7 +664,7 @@ fn recover_command<'a>(alloc: Global) -> Result<Command<'a>, AllocError>
     file_command(
         alloc,
         "recover",
-        "Makes a journal of all that can be had of a damaged one, and says how many changes came and from which bytes none did",
+        "Makes a journal of all that can be had of a damaged one, and says how many changes that is and which bytes gave none",
         "Example:\n  textpeer recover notes.journal whole.journal\n  textpeer recover notes.journal whole.journal --with copy.journal",
     )?
     .arg(made_journal(alloc))?
@@ -693,7 +697,7 @@ fn serve_command<'a>(alloc: Global) -> Result<Command<'a>, AllocError>
     pair_command(
         alloc,
         "serve",
-        "Serves a journal: prints the port once it listens, then holds sessions until it is ended",
+        "Serves a journal: prints `listening PORT` once it listens, then holds sessions until it is ended",
         "Example:\n  textpeer serve notes.journal 127.0.0.1:7000",
         "ADDR",
         "the address to listen on, as IP:PORT or HOST:PORT; with port 0 a free one is taken",
@@ -741,7 +745,7 @@ fn session_command<'a>(alloc: Global) -> Result<Command<'a>, AllocError>
         alloc,
         "session",
         "Holds one session over the standard input and output, and says on the standard error how many changes entered here. \
-         It waits for the other side without a bound",
+         It waits for the other side without a time limit",
         "Example:\n  mkfifo back\n  textpeer session copy.journal --client <back | ssh host textpeer session notes.journal >back",
     )?
     .arg(flag(
@@ -786,7 +790,7 @@ fn web_command<'a>(alloc: Global) -> Result<Command<'a>, AllocError>
     file_command(
         alloc,
         "web",
-        "Shows a journal as a page, in whose windows several people write: prints its address, and serves it until it is ended",
+        "Serves a journal as a web page, in whose windows several people write: prints its address, and goes on until it is ended",
         "Example:\n  textpeer web notes.journal",
     )?
     .arg(page(alloc))?

@@ -49,7 +49,7 @@ impl ValueError {
         match (self, explains) {
             (ValueError::BadHex, false) => "textpeer: BadHex\n",
             (ValueError::BadHex, true) => {
-                "textpeer: BadHex\n  a hash or a key is 64 hexadecimal digits\n"
+                "textpeer: BadHex\n  a hash or a key is 64 hexadecimal digits; textpeer log has whole hashes\n"
             }
             (ValueError::BadAddress, false) => "textpeer: Io\n",
             (ValueError::BadAddress, true) => {

@@ -50,9 +50,9 @@ pub(crate) const NOT_RESCUED: &str =
 pub(crate) fn of_cause(cause: Cause) -> &'static str {
     match cause {
         Cause::NotThere => "there is no such file",
-        Cause::Folder => "it is no file, but a folder",
-        Cause::NoFile => "it is no regular file, but a pipe or the like",
-        Cause::NoFolder => "a part of its path is no folder",
+        Cause::Folder => "it is a folder, not a file",
+        Cause::NoFile => "it is a pipe or the like, not a regular file",
+        Cause::NoFolder => "a part of its path isn't a folder",
         Cause::TooLong => "a name in its path is too long",
         Cause::Closed => "its folder may not be entered",
         Cause::NotRead => "it may not be opened",
@@ -64,7 +64,8 @@ pub(crate) fn of_cause(cause: Cause) -> &'static str {
 /// Why a journal can't be used, likewise.
 pub(crate) fn of_journal(cause: Cause) -> &'static str {
     match cause {
-        Cause::NotThere => "there is no such file: textpeer new makes a journal",
+        Cause::NotThere =>
+            "there is no such file. A journal is a copy of another one, or begins by textpeer import or new",
         cause => of_cause(cause),
     }
 }
@@ -77,10 +78,11 @@ pub(crate) fn advice(error: CommandError) -> &'static str {
         CommandError::Peer(error) => of_peer(error),
         CommandError::Doc(error) => of_document(error),
         CommandError::Store(error) => of_bytes(error),
-        CommandError::Busy => "another process has it open; nothing was changed",
-        CommandError::NotText { .. } => "only text is brought in; nothing was changed",
+        CommandError::Busy =>
+            "another process has it open; nothing was changed. Try again once it has ended",
+        CommandError::NotText { .. } => "and only text is brought in; nothing was changed",
         CommandError::NotEmpty => {
-            "it has a text already: textpeer update makes it that of a file"
+            "it has a text already; textpeer update changes that to the text of a file"
         }
     }
 }
@@ -95,7 +97,7 @@ fn of_peer(error: PeerError) -> &'static str {
         }
         PeerError::Stopped => "its journal failed before, and it takes nothing more",
         PeerError::TooManyLinks => "it has 1,024 links already",
-        PeerError::JournalNotEmpty => "something is there already, and stays as it is",
+        PeerError::JournalNotEmpty => "a file of that name exists, and is left as it is",
         PeerError::Doc(error) => of_document(error),
         PeerError::Sync(error) => of_message(error),
         PeerError::Store(error) => of_bytes(error),
@@ -138,7 +140,7 @@ fn of_message(error: SyncError) -> &'static str {
 fn of_bytes(error: StoreError) -> &'static str {
     match error {
         StoreError::BadMagic => {
-            "it doesn't begin as a journal does: of a saved file textpeer load makes one"
+            "it isn't a journal: textpeer import makes one of a text file, textpeer load of a saved file"
         }
         StoreError::Truncated => "a saved file that was cut short: its end is missing",
         StoreError::BadDigest => "a saved file that was changed: it hasn't the digest at its end",

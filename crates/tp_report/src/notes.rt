@@ -59,7 +59,7 @@ fn fault_place(alloc: Global, error: &JobError) -> Result<String, AllocError>
             format!(in alloc; "damaged at byte {at}; ")
         }
         JobError::Command(CommandError::NotText { at }) => {
-            format!(in alloc; "no UTF-8 from byte {at} on; ")
+            format!(in alloc; "it isn't UTF-8 from byte {at} on, ")
         }
         JobError::Line(number) => format!(in alloc; "line {number} "),
         _ => Ok(String::new(alloc)),
@@ -225,7 +225,9 @@ fn other_advice<D: Disk + AllocGlobal>(
 fn busy_advice<D: Disk + AllocGlobal>(rt: &D, file: &str) -> Result<String, AllocError> {
     match rt.lock(file) {
         Lock::HeldBy(process) => {
-            format!(in rt.alloc(); "process {process} has it open; nothing was changed")
+            format!(in rt.alloc();
+                "process {process} has it open; nothing was changed. Try again once it has ended"
+            )
         }
         _ => String::from_str(rt.alloc(), advice(CommandError::Busy)),
     }
@@ -291,7 +293,8 @@ fn session_advice(error: NetError) -> &'static str {
         NetError::OtherDocument => "the other side has another document",
         NetError::Version => "the other side speaks another version of the protocol",
         NetError::Unexpected => "the other side sent a frame out of turn",
-        NetError::RefusedByOther { .. } => "the other side refused the session",
+        NetError::RefusedByOther { .. } =>
+            "the other side refused the session, as where its journal is of another text",
         _ => "the session was broken off",
     }
 }
@@ -312,7 +315,7 @@ fn unreached_advice(
     cause: Unreached,
 ) -> Result<String, AllocError> {
     let text = match cause {
-        Unreached::Refused => "nobody listens there: textpeer serve does",
+        Unreached::Refused => "nothing listens there; textpeer serve FILE ADDR starts a server",
         Unreached::TimedOut => "there was no answer in time",
         Unreached::InUse => "another program listens there",
         Unreached::NotHere => "it is no address of this machine",
