@@ -1,3 +1,4 @@
+pub mod Refusals
 pub mod Network
 pub mod Watching
 pub mod Sessions

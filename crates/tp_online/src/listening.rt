@@ -3,6 +3,7 @@
 ghost use Rattle.std.specs.Prelude.{◌≡◌, ℕ, List, IfOk, None, OnErr, OnOk, Option};
 ghost use Rattle.tp_disk.specs.Opening.{CutsFile, MayCutFile, OpensJournal, OpensUnder};
 ghost use Rattle.tp_disk.specs.DiskView.{OfLocked};
+ghost use Rattle.tp_online.specs.Refusals.{tells_stop};
 ghost use Rattle.tp_online.specs.Sessions.{ReportsEach};
 
 use std::fs::OpenFile;
@@ -130,7 +131,9 @@ pub(crate) const STOPPED: JobError = JobError::Command(CommandError::Peer(
 ));
 
 // Whether a serving ended since its peer stopped.
-fn is_stop(error: &JobError) -> bool {
+fn is_stop(error: &JobError) -> bool
+    ensures { result ≡ tells_stop error.now }
+{
     matches!(
         error,
         JobError::Command(CommandError::Peer(PeerError::JournalFailed))
