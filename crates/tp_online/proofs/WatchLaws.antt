@@ -1,11 +1,17 @@
 -- Looks at a served peer, one after another.
-use Rattle.std.proofs.Common.{◌≡◌, ◌≢◌, ◌∙◌, ap, refl, sym, ℕ, [], ◌∷◌, ◌++◌, append-nil, List}
+use Rattle.std.proofs.Common.{◌≡◌, ◌≢◌, ◌∙◌, ap, refl, sym, ℕ, ◌+◌, [], ◌∷◌, ◌++◌, append-nil, List}
+use Rattle.std.specs.Prelude.{min}
+use Rattle.tp_command_line.specs.declared.job.Hosting.{Hosting}
+use Rattle.tp_net.specs.Sessions.{AllSit}
 use Rattle.tp_layout.specs.declared.parts.ChangeParts.{ChangeParts}
 use Rattle.tp_list.proofs.TraceLaws.{trace_join}
 use Rattle.tp_peer.specs.Links.{known_of}
 use Rattle.tp_peer.specs.PeerState.{PeerState}
 use Rattle.tp_served.specs.Seats.{SeatState, Visits}
 use Rattle.tp_served.specs.Steps.{StepsAsSeat}
+use Rattle.tp_served.specs.Seats.{ServedState}
+use Rattle.tp_online.specs.Sessions.{EndsRunning, WasServed, opened_seats}
+use Rattle.tp_online.specs.Showing.{AllTakePart, WasShown}
 use Rattle.tp_online.specs.Watching.{IsLookedAt, LooksOnce, Watches}
 
 -- a look is a turn of any seat
@@ -29,3 +35,27 @@ once_more s u v first same looked = record {
   times = first.times ++ tt ∷ [];
   looks = trace_join LooksOnce s.state first.times u.state (tt ∷ []) v.state first.looks (v.state, looked, refl);
 }
+
+-- ---- a served peer and its watch, from the opening to the closing
+
+module _ (p p' : PeerState) (d : ServedState) (first back : List SeatState) (last watched : SeatState) where
+  pub was_served : (workers count : ℕ) → d.opened ≡ p → d.count ≡ count → count ≡ min (workers + 1) 64 → opened_seats d ≡ first ++ last ∷ []
+      → AllSit d.opened.id first back → Watches last watched → EndsRunning d (back ++ watched ∷ []) p' → WasServed p workers p'
+  was_served workers count opened number is seats sat watches ends = record {
+    served = d;
+    opened = opened;
+    number = number ∙ is;
+    back = back ++ watched ∷ [];
+    sat = record { first = first; last = last; are = seats; back = back; watch = watched; are_back = refl; led = sat; watches = watches };
+    ends = ends;
+  }
+
+  pub was_shown : (hosting : Hosting) → d.opened ≡ p → opened_seats d ≡ first ++ last ∷ []
+      → AllTakePart hosting d.opened.id first back → Watches last watched → EndsRunning d (back ++ watched ∷ []) p' → WasShown hosting p p'
+  was_shown hosting opened seats went watches ends = record {
+    served = d;
+    opened = opened;
+    back = back ++ watched ∷ [];
+    parts = record { first = first; last = last; are = seats; back = back; watch = watched; are_back = refl; led = went; watches = watches };
+    ends = ends;
+  }

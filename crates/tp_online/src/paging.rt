@@ -297,7 +297,10 @@ where
         key,
         Blank::new(WEB_PLACES),
     ) {
-        Ok((back, watched)) => Ok(end_watched(served, back, watched)?),
+        Ok((back, watched)) => match end_watched(served, back, watched) {
+            Ok(peer) => Ok(peer),
+            Err(error) => Err(JobError::Command(error)),
+        },
         Err(error) => {
             drop(served);
             if ending.is_due(rt) {

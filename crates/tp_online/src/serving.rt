@@ -247,7 +247,10 @@ where
         watch,
         Blank::new(SERVE_PLACES),
     ) {
-        Ok((back, watched)) => Ok(end_watched(served, back, watched)?),
+        Ok((back, watched)) => match end_watched(served, back, watched) {
+            Ok(peer) => Ok(peer),
+            Err(error) => Err(JobError::Command(error)),
+        },
         Err(error) => {
             drop(served);
             if holding.ending.is_due(rt) {
