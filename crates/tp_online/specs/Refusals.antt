@@ -6,11 +6,11 @@ use Rattle.tp_report.specs.declared.error.JobError.{JobError}
 use Rattle.tp_report.specs.declared.error.JobError.TheVariants.{Command, Unreached}
 
 -- whether a later session may be held all the same: the server is away, or another has the journal
-abbrev pub passes : JobError → Bool
-passes (Command Io) = true
-passes (Command Busy) = true
-passes (Unreached cause) = true
-passes _ = false
+abbrev pub may_pass : JobError → Bool
+may_pass (Command Io) = true
+may_pass (Command Busy) = true
+may_pass (Unreached cause) = true
+may_pass _ = false
 
 -- whether it says that the journal failed
 abbrev pub tells_stop : JobError → Bool
