@@ -26,7 +26,7 @@ code_of_value NotOneOutput = 13
 -- the line that is printed of it, and below it what was expected, where that is asked for
 abbrev pub value_line : Bool → ValueError → List ℕ
 value_line false BadHex = codes "textpeer: BadHex\n"
-value_line true BadHex = codes "textpeer: BadHex\n  a hash or a key is 64 hexadecimal digits\n"
+value_line true BadHex = codes "textpeer: BadHex\n  a hash or a key is 64 hexadecimal digits; textpeer log has whole hashes\n"
 value_line false BadAddress = codes "textpeer: Io\n"
 value_line true BadAddress = codes "textpeer: Io\n  an address is IP:PORT or HOST:PORT, as 127.0.0.1:7000\n"
 value_line false BadPage = codes "textpeer: Io\n"
