@@ -32,7 +32,7 @@ path_at_fault s e = fault_path s.beside s.file.now e
 abbrev pub fault_place : JobError → List ℕ
 fault_place (Command (Store (Damaged at))) = codes "damaged at byte " ++ decimal at ++ codes "; "
 fault_place (Command (Peer (peer.Store (Damaged at)))) = codes "damaged at byte " ++ decimal at ++ codes "; "
-fault_place (Command (NotText at)) = codes "no UTF-8 from byte " ++ decimal at ++ codes " on; "
+fault_place (Command (NotText at)) = codes "it isn't UTF-8 from byte " ++ decimal at ++ codes " on, "
 fault_place (Line number) = codes "line " ++ decimal number ++ codes " "
 fault_place e = []
 
