@@ -185,7 +185,7 @@ pub(crate) fn open_anew<R: Disk + Clock + AllocGlobal, E: Write>(
     }
     for _ in 0..u64::MAX {
         if !is_kept(rt, source.file, stamp) {
-            break;
+            return Err(error);
         }
         if let Ok(peer) = open_and_report(rt, source, err) {
             return Ok(peer);
