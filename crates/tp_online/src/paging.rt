@@ -253,7 +253,10 @@ where
             ensures { Watches seat result }
         { watch(rt, ending, doors, ended, served, seat) },
     );
-    Ok((shown?, watched))
+    match shown {
+        Ok(back) => Ok((back, watched)),
+        Err(error) => Err(error),
+    }
 }
 
 // Shows the peer, on as many seats as there may be, and ends that with those that came back: the peer that the closing gives. One

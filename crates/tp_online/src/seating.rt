@@ -95,6 +95,7 @@ fn end_serving<J: Journal>(served: Served<J>, seats: Vec<Seat>) -> Result<Peer<J
 
 /// Ends the serving, with all seats, the last of which is that of its watch: the peer that the closing gives back. One whose journal
 /// failed meanwhile is refused.
+#[tactic(auto, using(crate::proofs::SessionLaws::are_with))]
 pub(crate) fn end_watched<J: Journal>(
     served: Served<J>,
     seats: Vec<Seat>,

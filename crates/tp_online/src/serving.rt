@@ -205,7 +205,10 @@ where
             ensures { Watches seat result }
         { watch(rt, holding.ending, doors, ended, served, seat) },
     );
-    Ok((held?, watched))
+    match held {
+        Ok(back) => Ok((back, watched)),
+        Err(error) => Err(error),
+    }
 }
 
 // How many seats a server gets: one for each session at once, and one that watches, but 64 at most.
