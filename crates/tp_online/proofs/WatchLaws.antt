@@ -1,28 +1,15 @@
 -- Looks at a served peer, one after another.
-use Rattle.std.proofs.Common.{◌≡◌, ◌≢◌, ◌∙◌, ap, refl, sym, ℕ, ◌+◌, [], ◌∷◌, ◌++◌, append-nil, List}
+use Rattle.std.proofs.Common.{◌≡◌, ◌∙◌, refl, ℕ, ◌+◌, [], ◌∷◌, ◌++◌, List}
 use Rattle.std.specs.Prelude.{min}
 use Rattle.tp_command_line.specs.declared.job.Hosting.{Hosting}
 use Rattle.tp_net.specs.Sessions.{AllSit}
-use Rattle.tp_layout.specs.declared.parts.ChangeParts.{ChangeParts}
 use Rattle.tp_list.proofs.TraceLaws.{trace_join}
-use Rattle.tp_peer.specs.Links.{known_of}
 use Rattle.tp_peer.specs.PeerState.{PeerState}
 use Rattle.tp_served.specs.Seats.{SeatState, Visits}
-use Rattle.tp_served.specs.Steps.{StepsAsSeat}
 use Rattle.tp_served.specs.Seats.{ServedState}
 use Rattle.tp_online.specs.Sessions.{EndsRunning, WasServed, opened_seats}
 use Rattle.tp_online.specs.Showing.{AllTakePart, WasShown}
 use Rattle.tp_online.specs.Watching.{IsLookedAt, LooksOnce, Watches}
-
--- a look is a turn of any seat
-pub a_look_serves : (p p' : PeerState) → IsLookedAt p p' → (n : ℕ) → StepsAsSeat n p p'
-a_look_serves p p' looked n = record {
-  id = ap (λ (q : PeerState). q.id) looked;
-  actor = ap (λ (q : PeerState). q.actor) looked;
-  new = [];
-  applied = ap (λ (q : PeerState). q.applied) looked ∙ sym (append-nil p.applied);
-  links = λ m other. ap (λ (q : PeerState). known_of q.links m) looked;
-}
 
 -- no look
 pub not_yet : (s : SeatState) → Watches s s

@@ -143,8 +143,11 @@ impl<L: OpenListener, R: Wait> OpenListener for Closable<'_, L, R> {
 struct Look;
 
 impl<J: Journal> Visitor<J> for Look {
+    ghost use Rattle.std.specs.Prelude.{[]};
+    ghost use Rattle.std.proofs.Common.{ap, append-nil, sym, ◌∙◌};
+    ghost use Rattle.tp_peer.specs.Links.{known_of};
+    ghost use Rattle.tp_peer.specs.PeerState.{PeerState};
     ghost use Rattle.tp_online.specs.Watching.{IsLookedAt};
-    ghost use Rattle.tp_online.proofs.WatchLaws.{a_look_serves};
 
     type Answer = bool;
 
@@ -154,7 +157,7 @@ impl<J: Journal> Visitor<J> for Look {
         peer.settle().is_ok()
     }
 
-    ghost serves = { λ _ p p' looked n. a_look_serves p p' looked n };
+    ghost serves = { λ _ p p' looked n. record { id = ap (λ (q : PeerState). q.id) looked; actor = ap (λ (q : PeerState). q.actor) looked; new = []; applied = ap (λ (q : PeerState). q.applied) looked ∙ sym (append-nil p.applied); links = λ m other. ap (λ (q : PeerState). known_of q.links m) looked } };
 }
 
 /// Where the listeners of a serving are, as far as the system says.
