@@ -137,15 +137,25 @@ fn patient_beside<'a, K: Ledger, R: Net + Wait + Clock + Eprint + AllocGlobal>(
     rt: &'a R,
     sessions: &'a Option<R::Listener>,
     places: &'a Places<K>,
-    ending: &'a Ending,
-) -> Option<Closable<'a, Patient<'a, R::Listener, K, R, Teller>, R>>
+) -> Option<Patient<'a, R::Listener, K, R, Teller>>
     ensures { is_some result ≡ is_some sessions.now }
 {
     match sessions {
-        Some(listener) => {
-            let patient = Patient::new(rt, listener, places, KEPT, &Teller);
-            Some(Closable::new(rt, patient, Door::Beside, ending))
-        }
+        Some(listener) => Some(Patient::new(rt, listener, places, KEPT, &Teller)),
+        None => None,
+    }
+}
+
+// The listener beside a page, where there is one, as one that ends with the serving.
+fn closable_beside<'a, L: OpenListener + Drop, R>(
+    rt: &'a R,
+    sessions: Option<L>,
+    ending: &'a Ending,
+) -> Option<Closable<'a, L, R>>
+    ensures { is_some result ≡ is_some sessions }
+{
+    match sessions {
+        Some(listener) => Some(Closable::new(rt, listener, Door::Beside, ending)),
         None => None,
     }
 }
@@ -193,7 +203,78 @@ fn show_until<
     shown
 }
 
-// Shows the page, and watches the peer meanwhile, on places that are counted by the ledger.
+// What accepts a page's connections, and sessions beside it, where its windows come from, and where it listens.
+#[derive(Drop)]
+struct Listeners<'a, L: Drop> {
+    page: L,
+    sessions: Option<L>,
+    site: &'a Site,
+    doors: Doors,
+}
+
+// Shows the page, and watches the peer meanwhile: the listeners end with the serving.
+fn show_watched<
+    R: Net + Threads + Wait + Clock + Eprint + AllocGlobal + Sync,
+    S: Read + Write + OpenStream + Send + Drop,
+    L: OpenListener<Stream = S> + Sync + Drop,
+    J: Journal + Send,
+>(
+    rt: &R,
+    listeners: Listeners<'_, L>,
+    hosting: &Hosting<'_>,
+    ending: &Ending,
+    served: &Served<J>,
+    seats: Vec<Seat>,
+    seat: Seat,
+    key: [u8; 32],
+) -> Result<(Vec<Seat>, Seat), JobError>
+    requires beside { is_some listeners.sessions ≡ is_some hosting.now.serve }
+    requires of { AreOf served.now.served seats.items }
+    requires watch { seat.served ≡ served.now.served }
+    ensures went { IfOk result (λ back. AllTakePart hosting.now served.now.opened.id seats.items
+        back.0.items) }
+    ensures of { IfOk result (λ back. AreOf served.now.served back.0.items
+        × (length back.0.items ≡ length seats.items)) }
+    ensures watches { IfOk result (λ back. Watches seat back.1) }
+{
+    let Listeners {
+        page,
+        sessions,
+        site,
+        doors,
+    } = listeners;
+    let closable = Stage {
+        page: Closable::new(rt, page, Door::Main, ending),
+        site,
+        sessions: closable_beside(rt, sessions, ending),
+    };
+    let stage = &closable;
+    let followed = server_of(rt, hosting);
+    let server = &followed;
+    let (serving, ended) = crossbeam_channel::unbounded(rt.alloc())?;
+    let (shown, watched) = thread::join(
+        rt,
+        move ||
+            requires of { AreOf served.now.served seats.items }
+            requires beside { is_some stage.now.sessions ≡ is_some hosting.now.serve }
+            requires there { is_some server.now ≡ is_some hosting.now.follow }
+            ensures went { IfOk result (λ back. AllTakePart hosting.entry.now
+                served.entry.now.opened.id seats.items back.items) }
+            ensures of { IfOk result (λ back. AreOf served.entry.now.served back.items
+                × (length back.items ≡ length seats.items)) }
+        { show_until(rt, stage, server, hosting, served, seats, key, serving) },
+        move ||
+            requires { seat.served ≡ served.now.served }
+            ensures { Watches seat result }
+        { watch(rt, ending, doors, ended, served, seat) },
+    );
+    match shown {
+        Ok(back) => Ok((back, watched)),
+        Err(error) => Err(error),
+    }
+}
+
+// Shows the page as [`show_watched`] does, on places that are counted by the ledger.
 fn show_counted<
     K: Ledger + Send + Sync,
     R: Net + Threads + Wait + Clock + Eprint + AllocGlobal + Sync,
@@ -226,37 +307,13 @@ where
     ensures watches { IfOk result (λ back. Watches seat back.1) }
 {
     let places = Places::<K>::new(blank, WEB_PLACES);
-    let patient = Patient::new(rt, &bound.page, &places, 0, &Teller);
-    let closable = Stage {
-        page: Closable::new(rt, patient, Door::Main, ending),
+    let listeners = Listeners {
+        page: Patient::new(rt, &bound.page, &places, 0, &Teller),
+        sessions: patient_beside(rt, &bound.sessions, &places),
         site,
-        sessions: patient_beside(rt, &bound.sessions, &places, ending),
+        doors: doors_of(bound),
     };
-    let stage = &closable;
-    let doors = doors_of(bound);
-    let followed = server_of(rt, hosting);
-    let server = &followed;
-    let (serving, ended) = crossbeam_channel::unbounded(rt.alloc())?;
-    let (shown, watched) = thread::join(
-        rt,
-        move ||
-            requires of { AreOf served.now.served seats.items }
-            requires beside { is_some stage.now.sessions ≡ is_some hosting.now.serve }
-            requires there { is_some server.now ≡ is_some hosting.now.follow }
-            ensures went { IfOk result (λ back. AllTakePart hosting.entry.now
-                served.entry.now.opened.id seats.items back.items) }
-            ensures of { IfOk result (λ back. AreOf served.entry.now.served back.items
-                × (length back.items ≡ length seats.items)) }
-        { show_until(rt, stage, server, hosting, served, seats, key, serving) },
-        move ||
-            requires { seat.served ≡ served.now.served }
-            ensures { Watches seat result }
-        { watch(rt, ending, doors, ended, served, seat) },
-    );
-    match shown {
-        Ok(back) => Ok((back, watched)),
-        Err(error) => Err(error),
-    }
+    show_watched(rt, listeners, hosting, ending, served, seats, seat, key)
 }
 
 // Shows the peer, on as many seats as there may be, and ends that with those that came back: the peer that the closing gives. One

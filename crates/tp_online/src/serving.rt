@@ -155,7 +155,56 @@ fn hold_until<
     held
 }
 
-// Holds sessions, and watches the peer meanwhile, on places that are counted by the ledger.
+// Holds sessions with those that a listener accepts, and watches the peer meanwhile: the listener ends with the serving.
+fn hold_watched<
+    R: Net + Threads + Wait + Clock + Eprint + AllocGlobal + Sync,
+    S: Read + Write + OpenStream + Send + Drop,
+    L: OpenListener<Stream = S> + Sync + Drop,
+    M: Sync,
+    J: Journal + Send,
+>(
+    rt: &R,
+    listener: L,
+    holding: &Holding<'_, M>,
+    served: &Served<J>,
+    seats: Vec<Seat>,
+    seat: Seat,
+) -> Result<(Vec<Seat>, Seat), JobError>
+    requires are { AreOf served.now.served seats.items }
+    requires watch { seat.served ≡ served.now.served }
+    ensures sat { IfOk result (λ back. AllSit served.now.opened.id seats.items back.0.items) }
+    ensures of { IfOk result (λ back. AreOf served.now.served back.0.items
+        × (length back.0.items ≡ length seats.items)) }
+    ensures watches { IfOk result (λ back. Watches seat back.1) }
+{
+    let doors = Doors {
+        main: listener.local_addr().ok(),
+        beside: None,
+    };
+    let closable = Closable::new(rt, listener, Door::Main, holding.ending);
+    let listener = &closable;
+    let (serving, ended) = crossbeam_channel::unbounded(rt.alloc())?;
+    let (held, watched) = thread::join(
+        rt,
+        move ||
+            requires { AreOf served.now.served seats.items }
+            ensures sat { IfOk result
+                (λ back. AllSit served.entry.now.opened.id seats.items back.items) }
+            ensures of { IfOk result (λ back. AreOf served.entry.now.served back.items
+                × (length back.items ≡ length seats.items)) }
+        { hold_until(rt, listener, holding, served, seats, serving) },
+        move ||
+            requires { seat.served ≡ served.now.served }
+            ensures { Watches seat result }
+        { watch(rt, holding.ending, doors, ended, served, seat) },
+    );
+    match held {
+        Ok(back) => Ok((back, watched)),
+        Err(error) => Err(error),
+    }
+}
+
+// Holds sessions as [`hold_watched`] does, on places that are counted by the ledger.
 fn hold_counted<
     K: Ledger + Send + Sync,
     R: Net + Threads + Wait + Clock + Eprint + AllocGlobal + Sync,
@@ -184,31 +233,7 @@ where
     let places = Places::<K>::new(blank, SERVE_PLACES);
     let kept = holding.how.workers as u64;
     let patient = Patient::new(rt, holding.listener, &places, kept, &Teller);
-    let doors = Doors {
-        main: patient.local_addr().ok(),
-        beside: None,
-    };
-    let closable = Closable::new(rt, patient, Door::Main, holding.ending);
-    let listener = &closable;
-    let (serving, ended) = crossbeam_channel::unbounded(rt.alloc())?;
-    let (held, watched) = thread::join(
-        rt,
-        move ||
-            requires { AreOf served.now.served seats.items }
-            ensures sat { IfOk result
-                (λ back. AllSit served.entry.now.opened.id seats.items back.items) }
-            ensures of { IfOk result (λ back. AreOf served.entry.now.served back.items
-                × (length back.items ≡ length seats.items)) }
-        { hold_until(rt, listener, holding, served, seats, serving) },
-        move ||
-            requires { seat.served ≡ served.now.served }
-            ensures { Watches seat result }
-        { watch(rt, holding.ending, doors, ended, served, seat) },
-    );
-    match held {
-        Ok(back) => Ok((back, watched)),
-        Err(error) => Err(error),
-    }
+    hold_watched(rt, patient, holding, served, seats, seat)
 }
 
 // How many seats a server gets: one for each session at once, and one that watches, but 64 at most.

@@ -3,16 +3,16 @@ use Rattle.tp_online.proofs.PartLaws.{popped}
 use Rattle.tp_online.proofs.SessionLaws.{parted}
 use Rattle.tp_online.proofs.seating.seat_watched.Goals as goal
 
-pub returns-in-Some-clause-ok : goal.returns-in-Some-clause-ok
-returns-in-Some-clause-ok g c =
+pub returns-clause-ok : goal.returns-clause-ok
+returns-clause-ok g c =
     let e = c.in_ok-served.ensures in (
       e.ok.0,
       e.ok.1,
       sym e.ok.2 ∙ popped c.in_ok-served.field-0.1.items c.pop.new.self.items c.pop.result c.in-Some.watch c.in-Some.is c.pop.ensures.items,
     )
 
-pub returns-in-Some-clause-of : goal.returns-in-Some-clause-of
-returns-in-Some-clause-of g c =
+pub returns-clause-of : goal.returns-clause-of
+returns-clause-of g c =
     let e = c.in_ok-served.ensures in
     parted c.in_ok-served.field-0.0.served c.in_ok-served.field-0.0.count c.in_ok-served.field-0.1.items c.pop.new.self.items c.in-Some.watch
     (popped c.in_ok-served.field-0.1.items c.pop.new.self.items c.pop.result c.in-Some.watch c.in-Some.is c.pop.ensures.items) e.of.0 e.of.1
