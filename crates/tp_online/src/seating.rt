@@ -60,14 +60,14 @@ pub(crate) fn seat_watched<J: Journal>(
 {
     let (served, seats) = seat_peer(alloc, peer, seats)?;
     let mut seats = seats;
-    match seats.pop() {
-        Some(watch) => Ok(Seated {
-            served,
-            seats,
-            watch,
-        }),
-        None => unreachable!(),
-    }
+    let Some(watch) = seats.pop() else {
+        unreachable!()
+    };
+    Ok(Seated {
+        served,
+        seats,
+        watch,
+    })
 }
 
 // The peer, if it still runs. One that has stopped, since its journal failed, is refused.
