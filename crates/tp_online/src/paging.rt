@@ -214,15 +214,16 @@ struct Listeners<'a, L: Drop> {
 
 // Shows the page, and watches the peer meanwhile: the listeners end with the serving.
 fn show_watched<
+    'x,
     R: Net + Threads + Wait + Clock + Eprint + AllocGlobal + Sync,
     S: Read + Write + OpenStream + Send + Drop,
     L: OpenListener<Stream = S> + Sync + Drop,
     J: Journal + Send,
 >(
-    rt: &R,
+    rt: &'x R,
     listeners: Listeners<'_, L>,
     hosting: &Hosting<'_>,
-    ending: &Ending,
+    ending: &'x Ending,
     served: &Served<J>,
     seats: Vec<Seat>,
     seat: Seat,

@@ -13,10 +13,10 @@ returns-in-Ok-clause-shown g c =
 
 pub loop-preserved : goal.loop-preserved
 loop-preserved g c = (
-  c.in_ok-peer.ensures.opens,
-  reports_more (g.R.Folders.saw c.args.rt.now) c.args.source.now.file.now (g.E.Write.contents c.args.err.now) (g.E.Write.contents c.loop.err) (g.E.Write.contents c.open_anew.new.err) c.loop.invariant.1 c.in_ok-peer.ensures.early,
+  c.in_ok-peer-in-Err.ensures.opens,
+  reports_more (g.R.Folders.saw c.args.rt.now) c.args.source.now.file.now (g.E.Write.contents c.args.err.now) (g.E.Write.contents c.loop.err) (g.E.Write.contents c.open_anew.new.err) c.loop.invariant.1 c.in_ok-peer-in-Err.ensures.early,
 )
 
-pub returns-in_err-peer-clause-early : goal.returns-in_err-peer-clause-early
-returns-in_err-peer-clause-early g c =
-    reports_more (g.R.Folders.saw c.args.rt.now) c.args.source.now.file.now (g.E.Write.contents c.args.err.now) (g.E.Write.contents c.loop.err) (g.E.Write.contents c.open_anew.new.err) c.loop.invariant.1 c.in_err-peer.ensures.early
+pub returns-in_err-peer-in-Err-clause-early : goal.returns-in_err-peer-in-Err-clause-early
+returns-in_err-peer-in-Err-clause-early g c =
+    reports_more (g.R.Folders.saw c.args.rt.now) c.args.source.now.file.now (g.E.Write.contents c.args.err.now) (g.E.Write.contents c.loop.err) (g.E.Write.contents c.open_anew.new.err) c.loop.invariant.1 c.in_err-peer-in-Err.ensures.early

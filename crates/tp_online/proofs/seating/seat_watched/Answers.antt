@@ -8,11 +8,11 @@ returns-clause-ok g c =
     let e = c.in_ok-served.ensures in (
       e.ok.0,
       e.ok.1,
-      sym e.ok.2 ∙ popped c.in_ok-served.field-0.1.items c.pop.new.self.items c.pop.result c.in-Some.watch c.in-Some.is c.pop.ensures.items,
+      sym e.ok.2 ∙ popped c.in_ok-served.seats.items c.pop.new.self.items c.pop.result c.in-Some.watch c.in-Some.is c.pop.ensures.items,
     )
 
 pub returns-clause-of : goal.returns-clause-of
 returns-clause-of g c =
     let e = c.in_ok-served.ensures in
-    parted c.in_ok-served.field-0.0.served c.in_ok-served.field-0.0.count c.in_ok-served.field-0.1.items c.pop.new.self.items c.in-Some.watch
-    (popped c.in_ok-served.field-0.1.items c.pop.new.self.items c.pop.result c.in-Some.watch c.in-Some.is c.pop.ensures.items) e.of.0 e.of.1
+    parted c.in_ok-served.served.served c.in_ok-served.served.count c.in_ok-served.seats.items c.pop.new.self.items c.in-Some.watch
+    (popped c.in_ok-served.seats.items c.pop.new.self.items c.pop.result c.in-Some.watch c.in-Some.is c.pop.ensures.items) e.of.0 e.of.1
