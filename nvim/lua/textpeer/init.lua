@@ -21,6 +21,33 @@ function M.of(buffer)
   return shared[buffer == nil and vim.api.nvim_get_current_buf() or buffer]
 end
 
+-- After how long journals are looked at once more, in milliseconds.
+local LOOK = 1000
+
+-- Looks at the journals of all buffers while there are any, also while nothing is typed: one that isn't there any more ends the
+-- sharing.
+local looking
+
+local function look_at_all()
+  for _, one in pairs(shared) do
+    one.document:look()
+  end
+end
+
+local function begin_looking()
+  if not looking then
+    looking = vim.loop.new_timer()
+    looking:start(LOOK, LOOK, vim.schedule_wrap(look_at_all))
+  end
+end
+
+local function end_looking()
+  if looking and not next(shared) then
+    looking:close()
+    looking = nil
+  end
+end
+
 -- Ends the buffer's document, and its link.
 local function release(buffer)
   local one = shared[buffer]
@@ -30,6 +57,7 @@ local function release(buffer)
       one.link:close()
     end
     shared[buffer] = nil
+    end_looking()
   end
 end
 
@@ -104,6 +132,7 @@ local function show(buffer, path, anew)
   shared[buffer] = one
   if not document.stopped then
     journal.open(one, path)
+    begin_looking()
   end
 end
 
