@@ -222,7 +222,7 @@ fn show_watched<
 >(
     rt: &'x R,
     listeners: Listeners<'_, L>,
-    hosting: &Hosting<'_>,
+    hosting: &Hosting<'x>,
     ending: &'x Ending,
     served: &Served<J>,
     seats: Vec<Seat>,

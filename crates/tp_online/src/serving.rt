@@ -181,7 +181,8 @@ fn hold_watched<
         main: listener.local_addr().ok(),
         beside: None,
     };
-    let closable = Closable::new(rt, listener, Door::Main, holding.ending);
+    let ending = holding.ending;
+    let closable = Closable::new(rt, listener, Door::Main, ending);
     let listener = &closable;
     let (serving, ended) = crossbeam_channel::unbounded(rt.alloc())?;
     let (held, watched) = thread::join(
@@ -196,7 +197,7 @@ fn hold_watched<
         move ||
             requires { seat.served ≡ served.now.served }
             ensures { Watches seat result }
-        { watch(rt, holding.ending, doors, ended, served, seat) },
+        { watch(rt, ending, doors, ended, served, seat) },
     );
     match held {
         Ok(back) => Ok((back, watched)),
