@@ -229,6 +229,9 @@ fn show_watched<
     seat: Seat,
     key: [u8; 32],
 ) -> Result<(Vec<Seat>, Seat), JobError>
+where
+    R::Listener: Sync,
+    R::Stream: Send,
     requires beside { is_some listeners.sessions ≡ is_some hosting.now.serve }
     requires of { AreOf served.now.served seats.items }
     requires watch { seat.served ≡ served.now.served }
@@ -253,8 +256,13 @@ fn show_watched<
     let followed = server_of(rt, hosting);
     let server = &followed;
     let (serving, ended) = crossbeam_channel::unbounded(rt.alloc())?;
-    let (shown, watched) = thread::join(
+    // (where no thread can be made the first is called last, when the serving has ended)
+    let (watched, shown) = thread::join(
         rt,
+        move ||
+            requires { seat.served ≡ served.now.served }
+            ensures { Watches seat result }
+        { watch(rt, ending, doors, ended, served, seat) },
         move ||
             requires of { AreOf served.now.served seats.items }
             requires beside { is_some stage.now.sessions ≡ is_some hosting.now.serve }
@@ -264,10 +272,6 @@ fn show_watched<
             ensures of { IfOk result (λ back. AreOf served.entry.now.served back.items
                 × (length back.items ≡ length seats.items)) }
         { show_until(rt, stage, server, hosting, served, seats, key, serving) },
-        move ||
-            requires { seat.served ≡ served.now.served }
-            ensures { Watches seat result }
-        { watch(rt, ending, doors, ended, served, seat) },
     );
     match shown {
         Ok(back) => Ok((back, watched)),
@@ -277,12 +281,13 @@ fn show_watched<
 
 // Shows the page as [`show_watched`] does, on places that are counted by the ledger.
 fn show_counted<
+    'x,
     K: Ledger + Send + Sync,
     R: Net + Threads + Wait + Clock + Eprint + AllocGlobal + Sync,
     J: Journal + Send,
 >(
-    rt: &R,
-    bound: &Bound<R::Listener>,
+    rt: &'x R,
+    bound: &'x Bound<R::Listener>,
     site: &Site,
     hosting: &Hosting<'_>,
     ending: &Ending,

@@ -170,6 +170,9 @@ fn hold_watched<
     seats: Vec<Seat>,
     seat: Seat,
 ) -> Result<(Vec<Seat>, Seat), JobError>
+where
+    R::Listener: Sync,
+    R::Stream: Send,
     requires are { AreOf served.now.served seats.items }
     requires watch { seat.served ≡ served.now.served }
     ensures sat { IfOk result (λ back. AllSit served.now.opened.id seats.items back.0.items) }
@@ -185,8 +188,13 @@ fn hold_watched<
     let closable = Closable::new(rt, listener, Door::Main, ending);
     let listener = &closable;
     let (serving, ended) = crossbeam_channel::unbounded(rt.alloc())?;
-    let (held, watched) = thread::join(
+    // (where no thread can be made the first is called last, when the serving has ended)
+    let (watched, held) = thread::join(
         rt,
+        move ||
+            requires { seat.served ≡ served.now.served }
+            ensures { Watches seat result }
+        { watch(rt, ending, doors, ended, served, seat) },
         move ||
             requires { AreOf served.now.served seats.items }
             ensures sat { IfOk result
@@ -194,10 +202,6 @@ fn hold_watched<
             ensures of { IfOk result (λ back. AreOf served.entry.now.served back.items
                 × (length back.items ≡ length seats.items)) }
         { hold_until(rt, listener, holding, served, seats, serving) },
-        move ||
-            requires { seat.served ≡ served.now.served }
-            ensures { Watches seat result }
-        { watch(rt, ending, doors, ended, served, seat) },
     );
     match held {
         Ok(back) => Ok((back, watched)),
