@@ -212,6 +212,23 @@ struct Listeners<'a, L: Drop> {
     doors: Doors,
 }
 
+// What was bound, as listeners on the places.
+fn listeners_on<'a, K: Ledger, R: Net + Wait + Clock + Eprint + AllocGlobal>(
+    rt: &'a R,
+    bound: &'a Bound<R::Listener>,
+    site: &'a Site,
+    places: &'a Places<K>,
+) -> Listeners<'a, Patient<'a, R::Listener, K, R, Teller>>
+    ensures { is_some result.sessions ≡ is_some bound.now.sessions }
+{
+    Listeners {
+        page: Patient::new(rt, &bound.page, places, 0, &Teller),
+        sessions: patient_beside(rt, &bound.sessions, places),
+        site,
+        doors: doors_of(bound),
+    }
+}
+
 // Shows the page, and watches the peer meanwhile: the listeners end with the serving.
 fn show_watched<
     'x,
@@ -281,13 +298,12 @@ where
 
 // Shows the page as [`show_watched`] does, on places that are counted by the ledger.
 fn show_counted<
-    'x,
     K: Ledger + Send + Sync,
     R: Net + Threads + Wait + Clock + Eprint + AllocGlobal + Sync,
     J: Journal + Send,
 >(
-    rt: &'x R,
-    bound: &'x Bound<R::Listener>,
+    rt: &R,
+    bound: &Bound<R::Listener>,
     site: &Site,
     hosting: &Hosting<'_>,
     ending: &Ending,
@@ -313,12 +329,7 @@ where
     ensures watches { IfOk result (λ back. Watches seat back.1) }
 {
     let places = Places::<K>::new(blank, WEB_PLACES);
-    let listeners = Listeners {
-        page: Patient::new(rt, &bound.page, &places, 0, &Teller),
-        sessions: patient_beside(rt, &bound.sessions, &places),
-        site,
-        doors: doors_of(bound),
-    };
+    let listeners = listeners_on(rt, bound, site, &places);
     show_watched(rt, listeners, hosting, ending, served, seats, seat, key)
 }
 
