@@ -13,7 +13,7 @@ returns-in-Ok-tell_page-clause-err g c =
     let ip : socket_ip c.new-page.result ≡ socket_ip c.args.hosting.now.page = search rules in
     stopped_page c.args.hosting.now c.new-page.result c.args.secret.key c.in-Ok.beside _ _ c.show_all.result ip c.in-Ok.ensures.1 c.in-Ok-tell_page.ensures.ok
 
-pub returns-in-Err-tell_page-clause-err : goal.returns-in-Err-tell_page-clause-err
-returns-in-Err-tell_page-clause-err g c =
+pub returns-in-Ok-clause-err : goal.returns-in-Ok-clause-err
+returns-in-Ok-clause-err g c =
     let ip : socket_ip c.new-page.result ≡ socket_ip c.args.hosting.now.page = search rules in
     stopped_within c.args.hosting.now c.new-page.result c.args.secret.key c.in-Ok.beside _ _ ip c.in-Ok.ensures.1 c.in-Err-tell_page.ensures.err
