@@ -11,7 +11,6 @@ import re
 import socket
 import struct
 import subprocess
-import time
 
 TOP = pathlib.Path(__file__).resolve().parent.parent
 PATIENCE = 30
@@ -134,15 +133,10 @@ def claim(key, challenge, side=b"textpeer page"):
     return frame(json.dumps(said).encode()), code_of(key, b"textpeer program", theirs, mine)
 
 
-def upgrade(port, path):
-    """The request for a window."""
-    return head(f"GET {path} HTTP/1.1", f"Host: 127.0.0.1:{port}", f"Origin: http://127.0.0.1:{port}", *UPGRADE)
-
-
 def asking(port, path="/socket"):
     """A connection that would be a window of the page, and the challenge with which it is asked for the key."""
     connection = Connection(port)
-    connection.send(upgrade(port, path))
+    connection.send(head(f"GET {path} HTTP/1.1", f"Host: 127.0.0.1:{port}", f"Origin: http://127.0.0.1:{port}", *UPGRADE))
     check("a window", connection.status(), 101)
     return connection, json.loads(connection.text() or "{}").get("challenge", "")
 
@@ -154,31 +148,6 @@ def window(page, path="/socket"):
     connection.send(said)
     check("the program knows the key", json.loads(connection.text() or "null"), {"known": {"code": wanted}})
     return connection
-
-
-def admitted(page, path):
-    """A connection that is a window of the page, or None where the program doesn't make one of it."""
-    connection = Connection(page.port)
-    with contextlib.suppress(ConnectionError, TimeoutError, ValueError):
-        connection.send(upgrade(page.port, path))
-        if connection.status() == 101:
-            said, wanted = claim(page.key, json.loads(connection.text() or "{}").get("challenge", ""))
-            connection.send(said)
-            if json.loads(connection.text() or "null") == {"known": {"code": wanted}}:
-                return connection
-    connection.close()
-    return None
-
-
-def soon(page, path, end):
-    """A window of a page that may not be served for some seconds, up to a time of the steady clock."""
-    while True:
-        with contextlib.suppress(ConnectionError):
-            if opened := admitted(page, path):
-                return opened
-        if time.monotonic() > end:
-            raise TimeoutError("there is no window to be had")
-        time.sleep(0.1)
 
 
 def ask(connection, request):

@@ -1,6 +1,6 @@
 -- What is printed of sessions one after another, and said of the journal meanwhile.
 use Rattle.std.proofs.Common.{◌≡◌, ◌+◌, ◌<◌, ◌∙◌, ap, arith, refl, subst, suc, sym, zero, ℕ, List, [], ◌∷◌, ◌++◌, length, Option, None, Some, Result, Ok, Err, inl, inr, append-nil, append_assoc, length-append}
-use Rattle.std.specs.Prelude.{OnErr, OnOk}
+use Rattle.std.specs.Prelude.{OnErr}
 use Rattle.std.specs.Io.KnownBytes.{Appends}
 use Rattle.std.specs.List.{All, flat_map}
 use Rattle.std.proofs.KnownBytes.{Appends-nil, Appends-trans}
@@ -17,7 +17,7 @@ use Rattle.tp_net.specs.Sessions.{AttemptsSessionAlone}
 use Rattle.tp_session.specs.declared.session.Role.TheVariants.{Client}
 use Rattle.tp_disk.specs.Keys.{IsDrawn}
 use Rattle.tp_disk.specs.DiskView.{DiskView, WasRead}
-use Rattle.tp_disk.specs.Opening.{CutsFile, MayCutFile}
+use Rattle.tp_disk.specs.Opening.{MayCutFile}
 use Rattle.tp_online.specs.Network.{met_line}
 use Rattle.tp_report.specs.Telling.{GrowsBy, GrowsPart, Reports}
 use Rattle.tp_online.specs.Sessions.{HasMet, IsIdle, ReportsEach, IsFollowed, MayMeet}
@@ -31,11 +31,6 @@ module _ (saw : DiskView → Type 0) (file : List ℕ) where
   pub reports_once : (a b : Option (List ℕ)) (kept : Option ℕ) → MayCutFile saw file kept → Reports file kept None a b
       → (cuts : List (Option ℕ)) × ReportsEach saw file cuts a b
   reports_once a b kept may reported = (kept ∷ [], (b, may, reported, refl))
-
-  -- what may have been cut off it, opened or not
-  pub may_have_cut : {A E : Type 0} (opened : Result A E) (kept : Option ℕ) → OnOk opened (CutsFile saw file kept) → OnErr opened (MayCutFile saw file kept) → MayCutFile saw file kept
-  may_have_cut (Ok x) kept cuts may = inr cuts
-  may_have_cut (Err e) kept cuts may = may
 
   reports_join : (cuts more : List (Option ℕ)) (a b c : Option (List ℕ)) → ReportsEach saw file cuts a b → ReportsEach saw file more b c → ReportsEach saw file (cuts ++ more) a c
   reports_join [] more a b c same then = subst (λ (x : Option (List ℕ)). ReportsEach saw file more x c) (sym same) then

@@ -3,5 +3,4 @@ pub mod ServedLines
 pub mod SessionLaws
 pub mod FollowLaws
 pub mod PageLines
-pub mod WatchLaws
 pub mod PartLaws

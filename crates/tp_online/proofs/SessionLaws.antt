@@ -1,11 +1,10 @@
 -- What sessions on the seats of a served peer came to.
-use Rattle.std.proofs.Common.{◌≡◌, ℕ, suc, zero, ◌+◌, List, [], ◌∷◌, ◌++◌, length, refl, sym, ap, ◌∙◌, subst, arith, length-append}
+use Rattle.std.proofs.Common.{◌≡◌, ℕ, suc, zero, ◌+◌, List, length, refl, sym, ap, ◌∙◌, subst}
 use Rattle.std.proofs.lemmas.List.{length-map}
 use Rattle.tp_peer.specs.PeerState.{PeerState}
 use Rattle.tp_served.specs.Calls.{AreOf}
 use Rattle.tp_served.specs.Seats.{SeatState, ServedState, fresh_from, seats_of}
-use Rattle.tp_served.proofs.SeatLaws.{AreOf-seats, last_is}
-use Rattle.tp_served.specs.Common.{TableId}
+use Rattle.tp_served.proofs.SeatLaws.{AreOf-seats}
 use Rattle.tp_online.specs.Sessions.{opened_seats}
 
 -- the seats of a served peer that was just opened are as many as its count
@@ -23,17 +22,3 @@ opened_are d seats is = (subst (AreOf d.served) (sym is) (AreOf-seats d.served (
 pub opened_by : (d : ServedState) (p : PeerState) (count : ℕ) (seats : List SeatState) → d.opened ≡ p → d.count ≡ count → seats ≡ seats_of d.served (fresh_from p 0 count) → seats ≡ opened_seats d
 opened_by d p count seats opened number is =
     is ∙ (ap (λ (q : PeerState). seats_of d.served (fresh_from q 0 count)) (sym opened) ∙ ap (λ (n : ℕ). seats_of d.served (fresh_from d.opened 0 n)) (sym number))
-
--- one seat more
-pub are_with : (served : TableId) (seats : List SeatState) (s : SeatState) → AreOf served seats → s.served ≡ served → AreOf served (seats ++ s ∷ [])
-are_with served [] s are is = (is, tt)
-are_with served (t ∷ seats) s are is = (are.0, are_with served seats s are.1 is)
-
--- the last seat, apart from the others
-pub parted : (served : TableId) (count : ℕ) (all rest : List SeatState) (s : SeatState) → all ≡ rest ++ s ∷ [] → AreOf served all → length all ≡ count
-    → AreOf served rest × (s.served ≡ served) × (suc (length rest) ≡ count)
-parted served count all rest s is are long =
-    let each = last_is served all rest s is are in
-    let same : length all ≡ length (rest ++ s ∷ []) = ap length is in
-    let more : length (rest ++ s ∷ []) ≡ length rest + 1 = length-append rest (s ∷ []) in
-    (each.0, each.1, omega (arith, long, same, more))

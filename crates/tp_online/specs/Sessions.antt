@@ -1,5 +1,5 @@
 -- What sessions came to, on the seats of a served peer and on a peer alone.
-use Rattle.std.specs.Prelude.{◌≡◌, ◌⊎◌, ℕ, ◌+◌, min, List, [], ◌∷◌, ◌++◌, length, Ok, Option, Some, None, false}
+use Rattle.std.specs.Prelude.{◌≡◌, ◌⊎◌, ℕ, List, [], ◌∷◌, length, Ok, Option, Some, None, false}
 use Rattle.std.specs.List.{All, flat_map}
 use Rattle.tp_peer.specs.PeerState.{PeerState}
 use Rattle.tp_session.specs.declared.session.Role.{Role}
@@ -9,7 +9,6 @@ use Rattle.tp_disk.specs.Opening.{MayCutFile, OpensUnder}
 use Rattle.tp_list.specs.Traces.{Trace}
 use Rattle.tp_report.specs.Telling.{Reports}
 use Rattle.tp_online.specs.Network.{met_line}
-use Rattle.tp_online.specs.Watching.{Watches}
 use Rattle.tp_net.specs.Sessions.{AllSit, AttemptsSessionAlone}
 use Rattle.tp_served.specs.Calls.{Closes}
 use Rattle.tp_served.specs.Seats.{SeatState, ServedState, fresh_from, seats_of, states_of}
@@ -23,26 +22,14 @@ pub record EndsRunning (served : ServedState) (seats : List SeatState) (p : Peer
   pub closes : Closes served.opened served.count (states_of seats) p
   pub runs : p.stopped ≡ false
 
--- The seats went on: all but the last as said, and the last one watched the peer.
-pub record GoWatched (went : List SeatState → List SeatState → Type 0) (seats seats' : List SeatState) : Type 0 where
-  pub first : List SeatState
-  pub last : SeatState
-  pub are : seats ≡ first ++ last ∷ []
-  pub back : List SeatState
-  pub watch : SeatState
-  pub are_back : seats' ≡ back ++ watch ∷ []
-  pub led : went first back
-  pub watches : Watches last watch
-
--- The peer p was opened, and served on a seat for each of as many sessions at once as said, and one that watched it, on 64 at most;
--- with these, as sessions about its document led them from the opening on, each as the server, the closing gives back the peer p'.
--- Its journal didn't stop it.
+-- The peer p was opened, and served on as many seats as said; with these, as sessions about its document led them from
+-- the opening on, each as the server, the closing gives back the peer p'. Its journal didn't stop it.
 pub record WasServed (p : PeerState) (count : ℕ) (p' : PeerState) : Type 0 where
   pub served : ServedState
   pub opened : served.opened ≡ p
-  pub number : served.count ≡ min (count + 1) 64
+  pub number : served.count ≡ count
   pub back : List SeatState
-  pub sat : GoWatched (AllSit served.opened.id) (opened_seats served) back
+  pub sat : AllSit served.opened.id (opened_seats served) back
   pub ends : EndsRunning served back p'
 
 -- The peer that was opened on the bytes of a journal, under the actor that is drawn under the key, was served.

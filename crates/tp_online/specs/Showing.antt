@@ -4,7 +4,7 @@ use Rattle.tp_command_line.specs.declared.job.Hosting.{Hosting}
 use Rattle.tp_disk.specs.Opening.{OpensUnder}
 use Rattle.tp_list.specs.Traces.{Trace}
 use Rattle.tp_net.specs.Sessions.{HoldsSession, Sits}
-use Rattle.tp_online.specs.Sessions.{EndsRunning, GoWatched, opened_seats}
+use Rattle.tp_online.specs.Sessions.{EndsRunning, opened_seats}
 use Rattle.tp_opid.specs.declared.doc_id.DocId.{DocId}
 use Rattle.tp_peer.specs.PeerState.{PeerState}
 use Rattle.tp_served.specs.Seats.{SeatState, ServedState}
@@ -32,13 +32,13 @@ AllTakePart hosting id [] (s' ∷ seats') = ⊥
 AllTakePart hosting id (s ∷ seats) [] = ⊥
 AllTakePart hosting id (s ∷ seats) (s' ∷ seats') = TakesPart hosting id s s' × AllTakePart hosting id seats seats'
 
--- The peer p was opened, and shown on a page; with its seats, as they went on from the opening, all but the one that watched it, the
--- closing gives back the peer p'. Its journal didn't stop it.
+-- The peer p was opened, and shown on a page; with its seats, as they went on from the opening, the closing gives back the peer
+-- p'. Its journal didn't stop it.
 pub record WasShown (hosting : Hosting) (p p' : PeerState) : Type 0 where
   pub served : ServedState
   pub opened : served.opened ≡ p
   pub back : List SeatState
-  pub parts : GoWatched (AllTakePart hosting served.opened.id) (opened_seats served) back
+  pub parts : AllTakePart hosting served.opened.id (opened_seats served) back
   pub ends : EndsRunning served back p'
 
 -- The peer that was opened on the bytes of a journal, under the actor that is drawn under the key, was shown on a page.

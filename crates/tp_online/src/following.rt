@@ -5,7 +5,6 @@ ghost use Rattle.std.specs.Io.KnownBytes.{Appends};
 ghost use Rattle.tp_textpeer.specs.Output.{AppendsPart};
 ghost use Rattle.tp_disk.specs.Opening.{CutsFile, MayCutFile};
 ghost use Rattle.tp_online.specs.Network.{met_line};
-ghost use Rattle.tp_online.specs.Refusals.{may_pass};
 ghost use Rattle.tp_report.specs.Telling.{GrowsBy, GrowsPart};
 ghost use Rattle.tp_online.specs.Sessions.{HasMet, IsIdle, ReportsEach, IsFollowed, MayMeet};
 ghost use Rattle.tp_session.specs.declared.session.Role.TheVariants.{Client};
@@ -39,9 +38,7 @@ pub struct Following<'a> {
 }
 
 // Whether a session may be held later that was refused now: the server is away, or another has the journal.
-fn is_for_now(error: &JobError) -> bool
-    ensures { result ≡ may_pass error.now }
-{
+fn is_for_now(error: &JobError) -> bool {
     matches!(
         error,
         JobError::Command(CommandError::Io)

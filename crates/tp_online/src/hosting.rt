@@ -31,11 +31,11 @@ const EVERY: u64 = 1;
 
 /// What a page's program listens with.
 #[derive(Drop)]
-pub(crate) struct Stage<'a, L: Drop> {
+pub(crate) struct Stage<L: Drop> {
     /// Accepts the connections of the page.
     pub page: L,
     /// Which of these are answered.
-    pub site: &'a Site,
+    pub site: Site,
     /// Accepts sessions, where these are served.
     pub sessions: Option<L>,
 }
@@ -64,7 +64,7 @@ fn show<
 >(
     rt: &R,
     alloc: Global,
-    stage: &Stage<'_, L>,
+    stage: &Stage<L>,
     hosting: &Hosting<'_>,
     served: &Served<J>,
     seats: Vec<Seat>,
@@ -79,7 +79,7 @@ fn show<
         rt,
         alloc,
         &stage.page,
-        stage.site,
+        &stage.site,
         served,
         seats,
         key,
@@ -102,7 +102,7 @@ fn hold_beside<
 >(
     rt: &R,
     alloc: Global,
-    stage: &Stage<'_, L>,
+    stage: &Stage<L>,
     hosting: &Hosting<'_>,
     served: &Served<J>,
     seats: Vec<Seat>,
@@ -301,7 +301,7 @@ fn exchange<
 >(
     rt: &R,
     alloc: Global,
-    stage: &Stage<'_, L>,
+    stage: &Stage<L>,
     server: &Option<V>,
     hosting: &Hosting<'_>,
     shown: Receiver<()>,
@@ -399,7 +399,7 @@ pub(crate) fn take_part<
 >(
     rt: &R,
     alloc: Global,
-    stage: &Stage<'_, L>,
+    stage: &Stage<L>,
     server: &Option<V>,
     hosting: &Hosting<'_>,
     served: &Served<J>,

@@ -11,7 +11,6 @@ mod paging;
 mod seating;
 mod serving;
 mod streaming;
-mod watching;
 
 pub use following::{Following, follow_file};
 pub use paging::web_file;

@@ -1,44 +1,38 @@
 //! The command `web`.
 
-ghost use Rattle.std.specs.Prelude.{◌≡◌, ◌⊎◌, ◌++◌, ℕ, List, IfErr, IfOk, None, OnErr, OnOk, Option, is_some, length};
+ghost use Rattle.std.specs.Prelude.{◌≡◌, ◌⊎◌, ◌++◌, ℕ, IfErr, IfOk, None, OnErr, OnOk, Option, is_some};
 ghost use Rattle.std.specs.Io.KnownBytes.{Appends, Keeps};
 ghost use Rattle.std.specs.String.{string_bytes};
 ghost use Rattle.tp_disk.specs.DiskView.{OfLocked};
-ghost use Rattle.tp_disk.specs.Opening.{MayCutFile, OpensUnder};
+ghost use Rattle.tp_disk.specs.Opening.{MayCutFile};
 ghost use Rattle.tp_online.specs.Network.{IsPageShown, beside_line, page_line as line_of_page};
-ghost use Rattle.tp_online.specs.Sessions.{ReportsEach};
-ghost use Rattle.tp_online.specs.Showing.{AllTakePart, ShowsJournal, WasShown};
-ghost use Rattle.tp_online.specs.Watching.{Watches};
-ghost use Rattle.tp_report.specs.Telling.{GrowsBy, GrowsPart};
-ghost use Rattle.tp_served.specs.Calls.{AreOf};
+ghost use Rattle.tp_online.specs.Showing.{ShowsJournal, WasShown};
+ghost use Rattle.tp_report.specs.Telling.{GrowsBy, GrowsPart, Reports};
 ghost use Rattle.tp_textpeer.specs.Output.{AppendsPart};
 
 use crate::accepting::{KEPT, Teller, WEB_PLACES};
-use crate::hosting::{Server, ServerAt, Stage, take_part};
-use crate::listening::{Listening, STOPPED, Source, bind, listen, open_anew};
-use crate::seating::{Seated, end_watched, seat_watched};
+use crate::hosting::{ServerAt, Stage, take_part};
+use crate::listening::{Listening, bind, listen};
+use crate::seating::{end_serving, seat_peer};
 use crate::serving::listening_line;
-use crate::watching::{Closable, Door, Doors, Ending, watch};
-use crossbeam_channel::Sender;
 use std::alloc::Global;
 use std::fs::OpenFile;
-use std::io::{Read, Write};
+use std::io::Write;
 use std::marker::Brand;
-use std::net::{Net, OpenListener, OpenStream, SocketAddr};
+use std::net::{Net, OpenListener, SocketAddr};
 use std::sync::Wait;
 use std::sync::ledger::{Blank, Ledger};
-use std::thread;
 use std::thread::Threads;
 use std::time::Clock;
 use tp_command_line::{Address, Hosting};
 use tp_commands::CommandError;
-use tp_disk::{Disk, key_or_random};
-use tp_journal::{DurableJournal, Journal};
+use tp_disk::{Disk, draw_actor, key_or_random};
+use tp_journal::DurableJournal;
 use tp_net::Unreached;
 use tp_patient::{Patient, Places};
 use tp_peer::Peer;
 use tp_report::{JobError, put, report};
-use tp_served::{MAX_SEATS, Seat, Served};
+use tp_served::MAX_SEATS;
 use tp_web::{Secret, Site};
 
 // What makes a page one of this run: drawn from the system, whatever the key of the random numbers is.
@@ -46,11 +40,6 @@ fn draw_secret<D: Disk>(rt: &D) -> Result<Secret, CommandError> {
     let drawn = key_or_random(rt, None)?;
     let mut key = [0; 16];
     key.copy_from_slice(&drawn[..16]);
-    with_challenges(rt, key)
-}
-
-// The key of a page, with challenges that were never used.
-fn with_challenges<D: Disk>(rt: &D, key: [u8; 16]) -> Result<Secret, CommandError> {
     let challenges = key_or_random(rt, None)?;
     Ok(Secret { key, challenges })
 }
@@ -98,14 +87,6 @@ fn tell_page<W: Write>(
     put(out, page_lines(alloc, page, key, port))
 }
 
-// What a page's program listens with, and where its page is.
-#[derive(Drop)]
-struct Bound<L: Drop> {
-    at: SocketAddr,
-    page: L,
-    sessions: Option<L>,
-}
-
 // What accepts sessions beside a page, where that is asked for, and its port.
 fn bound_beside<R: Net>(
     rt: &R,
@@ -119,6 +100,31 @@ fn bound_beside<R: Net>(
             Err(error) => Err(JobError::Unreached(Unreached::by(&error))),
         },
         None => Ok((None, None)),
+    }
+}
+
+// What a page's program listens with, and the port of sessions beside the page, where they are served.
+fn stage_at<R: Net + AllocGlobal>(
+    rt: &R,
+    listener: R::Listener,
+    page: SocketAddr,
+    secret: Secret,
+    serve: Option<Address>,
+) -> Result<(Stage<R::Listener>, Option<u16>), JobError>
+    ensures { IfOk result (λ s. (is_some s.0.sessions ≡ is_some serve.entry)
+        × (is_some s.1 ≡ is_some serve.entry)) }
+{
+    match Site::at(rt.alloc(), page, secret) {
+        Ok(site) => {
+            let (sessions, port) = bound_beside(rt, serve)?;
+            let stage = Stage {
+                page: listener,
+                site,
+                sessions,
+            };
+            Ok((stage, port))
+        }
+        Err(_) => Err(JobError::Command(CommandError::OutOfMemory)),
     }
 }
 
@@ -137,251 +143,107 @@ fn patient_beside<'a, K: Ledger, R: Net + Wait + Clock + Eprint + AllocGlobal>(
     rt: &'a R,
     sessions: &'a Option<R::Listener>,
     places: &'a Places<K>,
-    ending: &'a Ending,
-) -> Option<Closable<'a, Patient<'a, R::Listener, K, R, Teller>, R>>
+) -> Option<Patient<'a, R::Listener, K, R, Teller>>
     ensures { is_some result ≡ is_some sessions.now }
 {
     match sessions {
-        Some(listener) => {
-            let patient = Patient::new(rt, listener, places, KEPT, &Teller);
-            Some(Closable::new(rt, patient, Door::Beside, ending))
-        }
+        Some(listener) => Some(Patient::new(rt, listener, places, KEPT, &Teller)),
         None => None,
     }
 }
 
-// Where the listeners are, as far as the system says.
-fn doors_of<L: OpenListener + Drop>(bound: &Bound<L>) -> Doors {
-    let beside = match &bound.sessions {
-        Some(listener) => listener.local_addr().ok(),
-        None => None,
-    };
-    Doors {
-        main: bound.page.local_addr().ok(),
-        beside,
-    }
-}
-
-// Shows the page, holds sessions and follows a server as [`take_part`] does; then the sender is gone.
-fn show_until<
-    R: Threads + Wait + Clock + Eprint + AllocGlobal + Sync,
-    S: Read + Write + OpenStream + Send + Drop,
-    L: OpenListener<Stream = S> + Sync + Drop,
-    T: Read + Write + OpenStream + Drop,
-    V: Server<Stream = T>,
-    J: Journal + Send,
->(
-    rt: &R,
-    stage: &Stage<'_, L>,
-    server: &Option<V>,
-    hosting: &Hosting<'_>,
-    served: &Served<J>,
-    seats: Vec<Seat>,
-    key: [u8; 32],
-    serving: Sender<()>,
-) -> Result<Vec<Seat>, JobError>
-    requires of { AreOf served.now.served seats.items }
-    requires beside { is_some stage.now.sessions ≡ is_some hosting.now.serve }
-    requires there { is_some server.now ≡ is_some hosting.now.follow }
-    ensures went { IfOk result (λ back. AllTakePart hosting.now served.now.opened.id seats.items
-        back.items) }
-    ensures of { IfOk result (λ back. AreOf served.now.served back.items
-        × (length back.items ≡ length seats.items)) }
-{
-    let shown = take_part(rt, rt.alloc(), stage, server, hosting, served, seats, key);
-    drop(serving);
-    shown
-}
-
-// Shows the page, and watches the peer meanwhile, on places that are counted by the ledger.
+// Shows the peer, on as many seats as there may be, and ends that with those that came back: the peer that the closing gives.
+// One whose journal failed meanwhile is refused. The places are counted by the ledger.
 fn show_counted<
     K: Ledger + Send + Sync,
     R: Net + Threads + Wait + Clock + Eprint + AllocGlobal + Sync,
-    J: Journal + Send,
+    F: Write + OpenFile + Send + Drop,
 >(
     rt: &R,
-    bound: &Bound<R::Listener>,
-    site: &Site,
+    stage: Stage<R::Listener>,
     hosting: &Hosting<'_>,
-    ending: &Ending,
-    served: &Served<J>,
-    seats: Vec<Seat>,
-    seat: Seat,
+    peer: Peer<DurableJournal<F>>,
     key: [u8; 32],
     blank: Blank,
-) -> Result<(Vec<Seat>, Seat), JobError>
+) -> Result<Peer<DurableJournal<F>>, JobError>
 where
     R::Listener: Sync,
     R::Stream: Send,
-    requires beside { is_some bound.now.sessions ≡ is_some hosting.now.serve }
-    requires of { AreOf served.now.served seats.items }
-    requires watch { seat.served ≡ served.now.served }
+    requires beside { is_some stage.sessions ≡ is_some hosting.now.serve }
     requires name { blank.name ≡ K.name }
     requires parts { blank.parts ≡ K.parts }
     requires places { blank.parts ≡ WEB_PLACES }
-    ensures went { IfOk result (λ back. AllTakePart hosting.now served.now.opened.id seats.items
-        back.0.items) }
-    ensures of { IfOk result (λ back. AreOf served.now.served back.0.items
-        × (length back.0.items ≡ length seats.items)) }
-    ensures watches { IfOk result (λ back. Watches seat back.1) }
+    ensures { IfOk result (λ p. WasShown hosting.now peer p) }
 {
-    let places = Places::<K>::new(blank, WEB_PLACES);
-    let patient = Patient::new(rt, &bound.page, &places, 0, &Teller);
-    let closable = Stage {
-        page: Closable::new(rt, patient, Door::Main, ending),
+    let Stage {
+        page,
         site,
-        sessions: patient_beside(rt, &bound.sessions, &places, ending),
+        sessions,
+    } = stage;
+    let places = Places::<K>::new(blank, WEB_PLACES);
+    let patient = Stage {
+        page: Patient::new(rt, &page, &places, 0, &Teller),
+        site,
+        sessions: patient_beside(rt, &sessions, &places),
     };
-    let stage = &closable;
-    let doors = doors_of(bound);
-    let followed = server_of(rt, hosting);
-    let server = &followed;
-    let (serving, ended) = crossbeam_channel::unbounded(rt.alloc())?;
-    let (shown, watched) = thread::join(
-        rt,
-        move ||
-            requires of { AreOf served.now.served seats.items }
-            requires beside { is_some stage.now.sessions ≡ is_some hosting.now.serve }
-            requires there { is_some server.now ≡ is_some hosting.now.follow }
-            ensures went { IfOk result (λ back. AllTakePart hosting.entry.now
-                served.entry.now.opened.id seats.items back.items) }
-            ensures of { IfOk result (λ back. AreOf served.entry.now.served back.items
-                × (length back.items ≡ length seats.items)) }
-        { show_until(rt, stage, server, hosting, served, seats, key, serving) },
-        move ||
-            requires { seat.served ≡ served.now.served }
-            ensures { Watches seat result }
-        { watch(rt, ending, doors, ended, served, seat) },
-    );
-    match shown {
-        Ok(back) => Ok((back, watched)),
-        Err(error) => Err(error),
+    match seat_peer(rt.alloc(), peer, MAX_SEATS) {
+        Ok((served, seats)) => {
+            let server = server_of(rt, hosting);
+            match take_part(
+                rt,
+                rt.alloc(),
+                &patient,
+                &server,
+                hosting,
+                &served,
+                seats,
+                key,
+            ) {
+                Ok(back) => Ok(end_serving(served, back)?),
+                Err(error) => Err(error),
+            }
+        }
+        Err(error) => Err(JobError::Command(error)),
     }
 }
 
-// Shows the peer, on as many seats as there may be, and ends that with those that came back: the peer that the closing gives. One
-// whose journal failed meanwhile is refused.
+// Shows the peer as [`show_counted`] does.
 fn show_peer<
     R: Net + Threads + Wait + Clock + Eprint + AllocGlobal + Sync,
     F: Write + OpenFile + Send + Drop,
 >(
     rt: &R,
-    bound: &Bound<R::Listener>,
+    stage: Stage<R::Listener>,
     hosting: &Hosting<'_>,
-    secret: Secret,
-    key: [u8; 32],
     peer: Peer<DurableJournal<F>>,
+    key: [u8; 32],
 ) -> Result<Peer<DurableJournal<F>>, JobError>
 where
     R::Listener: Sync,
     R::Stream: Send,
-    requires { is_some bound.now.sessions ≡ is_some hosting.now.serve }
+    requires { is_some stage.sessions ≡ is_some hosting.now.serve }
     ensures { IfOk result (λ p. WasShown hosting.now peer p) }
 {
-    let Ok(site) = Site::at(rt.alloc(), bound.at, secret) else {
-        drop(peer);
-        return Err(JobError::Command(CommandError::OutOfMemory));
-    };
-    let Seated {
-        served,
-        seats,
-        watch,
-    } = seat_watched(rt.alloc(), peer, MAX_SEATS)?;
-    let ending = Ending::new();
-    match show_counted::<Brand, R, DurableJournal<F>>(
-        rt,
-        bound,
-        &site,
-        hosting,
-        &ending,
-        &served,
-        seats,
-        watch,
-        key,
-        Blank::new(WEB_PLACES),
-    ) {
-        Ok((back, watched)) => match end_watched(served, back, watched) {
-            Ok(peer) => Ok(peer),
-            Err(error) => Err(JobError::Command(error)),
-        },
-        Err(error) => {
-            drop(served);
-            if ending.is_due(rt) {
-                Err(STOPPED)
-            } else {
-                Err(error)
-            }
-        }
-    }
-}
-
-// Shows the peer. Where its journal fails, it is opened anew, and that peer is shown: under the same key, with other challenges, and
-// the actors of its windows are drawn from another key.
-fn show_all<R: Disk + Net + Threads + Wait + Clock + Eprint + AllocGlobal + Sync, E: Write>(
-    rt: &R,
-    source: &Source<'_>,
-    bound: &Bound<R::Listener>,
-    hosting: &Hosting<'_>,
-    secret: Secret,
-    key: [u8; 32],
-    peer: Peer<DurableJournal<R::File>>,
-    err: &mut E,
-) -> Result<Peer<DurableJournal<R::File>>, JobError>
-where
-    R::File: Send,
-    R::Listener: Sync,
-    R::Stream: Send,
-    requires beside { is_some bound.now.sessions ≡ is_some hosting.now.serve }
-    requires opens { OfLocked (R.saw rt.now) source.now.file.now
-        (λ bytes. OpensUnder source.now.key bytes peer) }
-    ensures shown { IfOk result (λ p. OfLocked (R.saw rt.now) source.now.file.now
-        (λ bytes. ShowsJournal hosting.now source.now.key bytes p)) }
-    ensures early { (cuts : List (Option ℕ)) × ReportsEach (R.saw rt.now) source.now.file.now cuts
-        (E.contents err.old) (E.contents err.new) }
-{
-    let mut peer = peer;
-    let mut secret = secret;
-    let mut key = key;
-    for _ in 0..u64::MAX {
-        let stamp = rt.stamp(source.file);
-        match show_peer(rt, bound, hosting, secret, key, peer) {
-            Ok(shown) => return Ok(shown),
-            Err(error) => {
-                secret = with_challenges(rt, secret.key)?;
-                key = key_or_random(rt, None)?;
-                peer = open_anew(rt, source, &stamp, error, err)?;
-            }
-        }
-    }
-    drop(peer);
-    Err(STOPPED)
+    show_counted::<Brand, R, F>(rt, stage, hosting, peer, key, Blank::new(WEB_PLACES))
 }
 
 // Prints the page's address, and shows the peer there.
 fn show_at<
-    R: Disk + Net + Threads + Wait + Clock + Eprint + AllocGlobal + Sync,
+    R: Net + Threads + Wait + Clock + Eprint + AllocGlobal + Sync,
+    F: Write + OpenFile + Send + Drop,
     W: Write,
-    E: Write,
 >(
     rt: &R,
-    source: &Source<'_>,
-    listening: Listening<R::Listener, R::File>,
+    listening: Listening<R::Listener, F>,
     hosting: &Hosting<'_>,
     secret: Secret,
     key: [u8; 32],
     out: &mut W,
-    err: &mut E,
-) -> Result<Peer<DurableJournal<R::File>>, JobError>
+) -> Result<Peer<DurableJournal<F>>, JobError>
 where
-    R::File: Send,
     R::Listener: Sync,
     R::Stream: Send,
-    requires { OfLocked (R.saw rt.now) source.now.file.now
-        (λ bytes. OpensUnder source.now.key bytes listening.peer) }
-    ensures shown { IfOk result (λ p. OfLocked (R.saw rt.now) source.now.file.now
-        (λ bytes. ShowsJournal hosting.now source.now.key bytes p)) }
-    ensures early { (cuts : List (Option ℕ)) × ReportsEach (R.saw rt.now) source.now.file.now cuts
-        (E.contents err.old) (E.contents err.new) }
+    ensures shown { IfOk result (λ p. WasShown hosting.now listening.peer p) }
     ensures ok { OnOk result
         (GrowsBy (IsPageShown hosting.now) (W.contents out.old) (W.contents out.new)) }
     ensures err { IfErr result (λ _. Keeps (W.contents out.old) (W.contents out.new)
@@ -393,21 +255,14 @@ where
         peer,
     } = listening;
     let page = SocketAddr::new(hosting.page.ip(), port);
-    match bound_beside(rt, hosting.serve) {
-        Ok((sessions, beside)) => {
-            let bound = Bound {
-                at: page,
-                page: listener,
-                sessions,
-            };
-            match tell_page(rt.alloc(), page, &secret.key, beside, out) {
-                Ok(()) => show_all(rt, source, &bound, hosting, secret, key, peer, err),
-                Err(error) => {
-                    drop(peer);
-                    Err(error)
-                }
+    match stage_at(rt, listener, page, secret, hosting.serve) {
+        Ok((stage, beside)) => match tell_page(rt.alloc(), page, &secret.key, beside, out) {
+            Ok(()) => show_peer(rt, stage, hosting, peer, key),
+            Err(error) => {
+                drop(peer);
+                Err(error)
             }
-        }
+        },
         Err(error) => {
             drop(peer);
             Err(error)
@@ -417,13 +272,10 @@ where
 
 /// Shows the journal at a path as a page, which is of this machine: its address is printed once it listens, with the key that its
 /// windows have to know, which is drawn from the system, and the port of the sessions that are served beside it, where these are
-/// asked for. It is served until no connection can be accepted any more, with up to 63 windows at once, or 47 beside sessions and a
-/// server that is followed. What was cut off the journal is said once it listens; how sessions with the server end that is followed
-/// is printed by the runtime, and not to `err`.
-///
-/// Each second the journal is looked at. Where it was moved, removed, replaced or cut, it ends as `JournalFailed`. Where it fails
-/// else, as on a full disk, the windows and the sessions end, and it is opened anew once that can be, under the same address and
-/// the same key of the page; what was cut off it is said then. The peer that the last closing gave back.
+/// asked for. It is served until no connection can be accepted any more, with
+/// up to 64 windows at once, or 48 beside sessions and a server that is followed. What was cut off the journal is said once it
+/// listens; how sessions with the server end that is followed is printed by the runtime, and not to `err`. The peer that the
+/// closing gave back; one whose journal failed meanwhile is refused.
 pub fn web_file<
     R: Disk + Net + Threads + Wait + Clock + Eprint + AllocGlobal + Sync,
     W: Write,
@@ -445,8 +297,9 @@ where
     requires { cut.old ≡ None }
     ensures cuts { OnOk result (cut.new ≡ None) }
     ensures may_cut { OnErr result (MayCutFile (R.saw rt.now) file.now cut.new) }
-    ensures early { (cuts : List (Option ℕ)) × ReportsEach (R.saw rt.now) file.now cuts
-        (E.contents err.old) (E.contents err.new) }
+    ensures early { (kept : Option ℕ)
+        × MayCutFile (R.saw rt.now) file.now kept
+        × Reports file.now kept None (E.contents err.old) (E.contents err.new) }
     ensures shown { IfOk result (λ p. OfLocked (R.saw rt.now) file.now
         (λ bytes. ShowsJournal hosting.entry key bytes p)) }
     ensures ok { OnOk result
@@ -454,14 +307,14 @@ where
     ensures err { IfErr result (λ _. Keeps (W.contents out.old) (W.contents out.new)
         ⊎ GrowsPart (IsPageShown hosting.entry) (W.contents out.old) (W.contents out.new)) }
 {
-    let source = Source { file, key, wait };
+    let actor = draw_actor(rt, key)?;
     let windows = key_or_random(rt, key)?;
     let secret = draw_secret(rt)?;
-    match listen(rt, &source, Address::Socket(hosting.page), cut) {
+    match listen(rt, file, Address::Socket(hosting.page), actor, wait, cut) {
         Ok(listening) => {
             report(rt.alloc(), file, *cut, None, err);
             *cut = None;
-            show_at(rt, &source, listening, &hosting, secret, windows, out, err)
+            show_at(rt, listening, &hosting, secret, windows, out)
         }
         Err(error) => Err(error),
     }

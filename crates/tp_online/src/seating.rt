@@ -1,6 +1,6 @@
 //! Sessions on the seats of a peer.
 
-ghost use Rattle.std.specs.Prelude.{◌≡◌, ◌<◌, suc, [], ◌∷◌, ◌++◌, length, IfOk, false};
+ghost use Rattle.std.specs.Prelude.{◌≡◌, length, IfOk, false};
 ghost use Rattle.tp_net.specs.Sessions.{AllSit};
 ghost use Rattle.tp_served.specs.Calls.{AreOf};
 ghost use Rattle.tp_online.specs.Sessions.{EndsRunning, opened_seats};
@@ -18,19 +18,8 @@ use tp_peer::{Peer, PeerError};
 use tp_report::JobError;
 use tp_served::{Seat, Served};
 
-/// A served peer with its seats.
-#[derive(Drop)]
-pub(crate) struct Seated<J: Journal> {
-    /// It.
-    pub served: Served<J>,
-    /// All seats but the last.
-    pub seats: Vec<Seat>,
-    /// The last seat, which is that of its watch.
-    pub watch: Seat,
-}
-
-// The peer, served to as many threads as it gets seats, 1 to 64. The only refusal is `OutOfMemory`.
-fn seat_peer<J: Journal>(
+/// The peer, served to as many threads as it gets seats, 1 to 64. The only refusal is `OutOfMemory`.
+pub(crate) fn seat_peer<J: Journal>(
     alloc: Global,
     peer: Peer<J>,
     seats: usize,
@@ -45,31 +34,6 @@ fn seat_peer<J: Journal>(
     }
 }
 
-/// The peer, served with as many seats as said, 1 to 64. The only refusal is `OutOfMemory`.
-pub(crate) fn seat_watched<J: Journal>(
-    alloc: Global,
-    peer: Peer<J>,
-    seats: usize,
-) -> Result<Seated<J>, CommandError>
-    requires { 0 < seats }
-    ensures ok { IfOk result (λ r. (r.served.opened ≡ peer) × (r.served.count ≡ seats)
-        × (opened_seats r.served ≡ r.seats.items ++ r.watch ∷ [])) }
-    ensures of { IfOk result (λ r. AreOf r.served.served r.seats.items
-        × (r.watch.served ≡ r.served.served)
-        × (suc (length r.seats.items) ≡ r.served.count)) }
-{
-    let (served, seats) = seat_peer(alloc, peer, seats)?;
-    let mut seats = seats;
-    match seats.pop() {
-        Some(watch) => Ok(Seated {
-            served,
-            seats,
-            watch,
-        }),
-        None => unreachable!(),
-    }
-}
-
 // The peer, if it still runs. One that has stopped, since its journal failed, is refused.
 fn still_runs<J: Journal>(peer: Peer<J>) -> Result<Peer<J>, CommandError>
     ensures runs { IfOk result (λ p. (p ≡ peer) × (p.stopped ≡ false)) }
@@ -81,8 +45,11 @@ fn still_runs<J: Journal>(peer: Peer<J>) -> Result<Peer<J>, CommandError>
     Ok(peer)
 }
 
-// Ends the serving, with all seats: the peer that the closing gives back. One whose journal failed meanwhile is refused.
-fn end_serving<J: Journal>(served: Served<J>, seats: Vec<Seat>) -> Result<Peer<J>, CommandError>
+/// Ends the serving, with all seats: the peer that the closing gives back. One whose journal failed meanwhile is refused.
+pub(crate) fn end_serving<J: Journal>(
+    served: Served<J>,
+    seats: Vec<Seat>,
+) -> Result<Peer<J>, CommandError>
     requires of { AreOf served.served seats.items }
     requires all { length seats.items ≡ served.count }
     ensures ok { IfOk result (λ p. EndsRunning served seats.items p) }
@@ -91,23 +58,6 @@ fn end_serving<J: Journal>(served: Served<J>, seats: Vec<Seat>) -> Result<Peer<J
         Ok(peer) => still_runs(peer),
         Err(_) => unreachable!(),
     }
-}
-
-/// Ends the serving, with all seats, the last of which is that of its watch: the peer that the closing gives back. One whose journal
-/// failed meanwhile is refused.
-#[tactic(auto, using(crate::proofs::SessionLaws::are_with))]
-pub(crate) fn end_watched<J: Journal>(
-    served: Served<J>,
-    seats: Vec<Seat>,
-    watch: Seat,
-) -> Result<Peer<J>, CommandError>
-    requires of { AreOf served.served seats.items × (watch.served ≡ served.served) }
-    requires all { suc (length seats.items) ≡ served.count }
-    ensures ok { IfOk result (λ p. EndsRunning served (seats.items ++ watch ∷ []) p) }
-{
-    let mut seats = seats;
-    seats.push(watch)?;
-    end_serving(served, seats)
 }
 
 /// Holds as many sessions as said with those that connect, on the seats: they come back, in their order.

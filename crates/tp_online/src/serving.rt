@@ -1,32 +1,28 @@
 //! The commands `serve` and `sync`.
 
-ghost use Rattle.std.specs.Prelude.{◌≡◌, ◌⊎◌, ℕ, ◌+◌, List, IfOk, IfErr, None, Ok, OnErr, OnOk, Option, length, min};
+ghost use Rattle.std.specs.Prelude.{◌≡◌, ◌⊎◌, ℕ, IfOk, IfErr, None, Ok, OnErr, OnOk, Option, length};
 ghost use Rattle.std.specs.Io.KnownBytes.{Appends, Keeps};
 ghost use Rattle.std.specs.String.{string_bytes};
 ghost use Rattle.tp_textpeer.specs.Output.{AppendsPart};
 ghost use Rattle.tp_online.specs.Network.{IsServeOutput, IsSynced, listening_line as line_of_port, served_line as line_of_sessions};
-ghost use Rattle.tp_report.specs.Telling.{applied_line as line_of_applied, GrowsBy, GrowsPart, RefusesPrinting};
-ghost use Rattle.tp_disk.specs.Opening.{CutsFile, MayCutFile, OpensUnder};
+ghost use Rattle.tp_report.specs.Telling.{applied_line as line_of_applied, GrowsBy, GrowsPart, RefusesPrinting, Reports};
+ghost use Rattle.tp_disk.specs.Opening.{CutsFile, MayCutFile};
 ghost use Rattle.tp_disk.specs.DiskView.{OfLocked};
 ghost use Rattle.tp_session.specs.declared.session.Role.TheVariants.{Client};
 ghost use Rattle.tp_net.specs.Sessions.{AllSit, AttemptsSessionAlone};
 ghost use Rattle.tp_served.specs.Calls.{AreOf};
-ghost use Rattle.tp_online.specs.Sessions.{HasMet, ReportsEach, ServesJournal, WasServed};
-ghost use Rattle.tp_online.specs.Watching.{Watches};
+ghost use Rattle.tp_online.specs.Sessions.{HasMet, ServesJournal, WasServed};
 
 use crate::accepting::{SERVE_PLACES, Teller};
-use crate::listening::{Listening, STOPPED, Source, listen, open_anew, open_peer};
-use crate::seating::{Seated, end_watched, hold, seat_watched};
-use crate::watching::{Closable, Door, Doors, Ending, watch};
-use crossbeam_channel::Sender;
+use crate::listening::{Listening, listen, open_peer};
+use crate::seating::{end_serving, hold, seat_peer};
 use std::alloc::Global;
 use std::fs::OpenFile;
-use std::io::{Read, Write};
+use std::io::Write;
 use std::marker::Brand;
-use std::net::{Net, OpenListener, OpenStream};
+use std::net::Net;
 use std::sync::Wait;
 use std::sync::ledger::{Blank, Ledger};
-use std::thread;
 use std::thread::Threads;
 use std::time::{Clock, Duration};
 use tp_command_line::Address;
@@ -37,7 +33,7 @@ use tp_net::{Unreached, hold_alone_on, reach};
 use tp_patient::{Patient, Places};
 use tp_peer::Peer;
 use tp_report::{JobError, Log, applied_text, put, report};
-use tp_served::{MAX_SEATS, Seat, Served};
+use tp_served::{Seat, Served};
 use tp_session::Role;
 
 /// How a server serves.
@@ -108,245 +104,103 @@ fn tell_applied<W: Write>(alloc: Global, applied: u64, out: &mut W) -> Result<()
     put(out, applied_text(alloc, Some(applied)))
 }
 
-// A listener, how sessions are held with it, how many are still to be held, and their end.
-#[derive(Drop)]
-struct Holding<'a, L> {
-    listener: &'a L,
-    how: &'a Serving,
-    left: u64,
-    ending: &'a Ending,
-}
-
-// Holds sessions as [`hold`] does; then the sender is gone.
-fn hold_until<
-    R: Threads + Wait + Clock + Eprint + AllocGlobal + Sync,
-    S: Read + Write + OpenStream + Send + Drop,
-    L: OpenListener<Stream = S>,
-    M,
-    J: Journal + Send,
->(
-    rt: &R,
-    listener: &L,
-    holding: &Holding<'_, M>,
-    served: &Served<J>,
-    seats: Vec<Seat>,
-    serving: Sender<()>,
-) -> Result<Vec<Seat>, JobError>
-    requires { AreOf served.now.served seats.items }
-    ensures sat { IfOk result (λ back. AllSit served.now.opened.id seats.items back.items) }
-    ensures of { IfOk result (λ back. AreOf served.now.served back.items
-        × (length back.items ≡ length seats.items)) }
-{
-    let gate = Log {
-        rt,
-        is_verbose: holding.how.is_verbose,
-    };
-    let held = hold(
-        rt,
-        rt.alloc(),
-        listener,
-        served,
-        seats,
-        holding.left,
-        holding.how.patience,
-        &gate,
-    );
-    drop(serving);
-    held
-}
-
-// Holds sessions, and watches the peer meanwhile, on places that are counted by the ledger.
+// Holds sessions as [`hold`] does, on places that are counted by the ledger.
 fn hold_counted<
     K: Ledger + Send + Sync,
     R: Net + Threads + Wait + Clock + Eprint + AllocGlobal + Sync,
     J: Journal + Send,
 >(
     rt: &R,
-    holding: &Holding<'_, R::Listener>,
+    listener: &R::Listener,
+    how: &Serving,
     served: &Served<J>,
     seats: Vec<Seat>,
-    seat: Seat,
     blank: Blank,
-) -> Result<(Vec<Seat>, Seat), JobError>
+) -> Result<Vec<Seat>, JobError>
 where
-    R::Listener: Sync,
     R::Stream: Send,
     requires are { AreOf served.now.served seats.items }
-    requires watch { seat.served ≡ served.now.served }
     requires name { blank.name ≡ K.name }
     requires parts { blank.parts ≡ K.parts }
     requires places { blank.parts ≡ SERVE_PLACES }
-    ensures sat { IfOk result (λ back. AllSit served.now.opened.id seats.items back.0.items) }
-    ensures of { IfOk result (λ back. AreOf served.now.served back.0.items
-        × (length back.0.items ≡ length seats.items)) }
-    ensures watches { IfOk result (λ back. Watches seat back.1) }
+    ensures sat { IfOk result (λ back. AllSit served.now.opened.id seats.items back.items) }
+    ensures of { IfOk result (λ back. AreOf served.now.served back.items
+        × (length back.items ≡ length seats.items)) }
 {
     let places = Places::<K>::new(blank, SERVE_PLACES);
-    let kept = holding.how.workers as u64;
-    let patient = Patient::new(rt, holding.listener, &places, kept, &Teller);
-    let doors = Doors {
-        main: patient.local_addr().ok(),
-        beside: None,
-    };
-    let closable = Closable::new(rt, patient, Door::Main, holding.ending);
-    let listener = &closable;
-    let (serving, ended) = crossbeam_channel::unbounded(rt.alloc())?;
-    let (held, watched) = thread::join(
+    let kept = how.workers as u64;
+    let gate = Log {
         rt,
-        move ||
-            requires { AreOf served.now.served seats.items }
-            ensures sat { IfOk result
-                (λ back. AllSit served.entry.now.opened.id seats.items back.items) }
-            ensures of { IfOk result (λ back. AreOf served.entry.now.served back.items
-                × (length back.items ≡ length seats.items)) }
-        { hold_until(rt, listener, holding, served, seats, serving) },
-        move ||
-            requires { seat.served ≡ served.now.served }
-            ensures { Watches seat result }
-        { watch(rt, holding.ending, doors, ended, served, seat) },
-    );
-    match held {
-        Ok(back) => Ok((back, watched)),
-        Err(error) => Err(error),
-    }
-}
-
-// How many seats a server gets: one for each session at once, and one that watches, but 64 at most.
-fn seats_for(workers: usize) -> usize
-    ensures { result ≡ min (workers + 1) 64 }
-{
-    if workers < MAX_SEATS {
-        workers + 1
-    } else {
-        MAX_SEATS
-    }
+        is_verbose: how.is_verbose,
+    };
+    hold(
+        rt,
+        rt.alloc(),
+        &Patient::new(rt, listener, &places, kept, &Teller),
+        served,
+        seats,
+        how.sessions,
+        how.patience,
+        &gate,
+    )
 }
 
 // Holds the sessions, and ends the serving with the seats that came back: the peer that the closing gives. One whose
 // journal failed meanwhile is refused.
-fn hold_sessions<
-    R: Net + Threads + Wait + Clock + Eprint + AllocGlobal + Sync,
-    F: Write + OpenFile + Send + Drop,
->(
+fn hold_sessions<R: Disk + Net + Threads + Wait + Clock + Eprint + AllocGlobal + Sync>(
     rt: &R,
-    holding: &Holding<'_, R::Listener>,
-    peer: Peer<DurableJournal<F>>,
-) -> Result<Peer<DurableJournal<F>>, JobError>
-where
-    R::Listener: Sync,
-    R::Stream: Send,
-    ensures { IfOk result (λ p. WasServed peer holding.now.how.now.workers p) }
-{
-    let Seated {
-        served,
-        seats,
-        watch,
-    } = seat_watched(rt.alloc(), peer, seats_for(holding.how.workers))?;
-    match hold_counted::<Brand, R, DurableJournal<F>>(
-        rt,
-        holding,
-        &served,
-        seats,
-        watch,
-        Blank::new(SERVE_PLACES),
-    ) {
-        Ok((back, watched)) => match end_watched(served, back, watched) {
-            Ok(peer) => Ok(peer),
-            Err(error) => Err(JobError::Command(error)),
-        },
-        Err(error) => {
-            drop(served);
-            if holding.ending.is_due(rt) {
-                Err(STOPPED)
-            } else {
-                Err(error)
-            }
-        }
-    }
-}
-
-// Holds the sessions of the peer, as many as said. Where its journal fails before the last was accepted, it is opened anew, and the
-// other ones are those of that peer.
-fn hold_all<R: Disk + Net + Threads + Wait + Clock + Eprint + AllocGlobal + Sync, E: Write>(
-    rt: &R,
-    source: &Source<'_>,
-    listener: &R::Listener,
-    how: &Serving,
-    peer: Peer<DurableJournal<R::File>>,
-    err: &mut E,
-) -> Result<Peer<DurableJournal<R::File>>, JobError>
-where
-    R::File: Send,
-    R::Listener: Sync,
-    R::Stream: Send,
-    requires { OfLocked (R.saw rt.now) source.now.file.now
-        (λ bytes. OpensUnder source.now.key bytes peer) }
-    ensures served { IfOk result (λ p. OfLocked (R.saw rt.now) source.now.file.now
-        (λ bytes. ServesJournal source.now.key bytes how.now.workers p)) }
-    ensures early { (cuts : List (Option ℕ)) × ReportsEach (R.saw rt.now) source.now.file.now cuts
-        (E.contents err.old) (E.contents err.new) }
-{
-    let mut peer = peer;
-    let mut left = how.sessions;
-    for _ in 0..u64::MAX {
-        let stamp = rt.stamp(source.file);
-        let ending = Ending::new();
-        let holding = Holding {
-            listener,
-            how,
-            left,
-            ending: &ending,
-        };
-        match hold_sessions(rt, &holding, peer) {
-            Ok(served) => return Ok(served),
-            Err(error) => {
-                left = left.saturating_sub(ending.connection_count(rt));
-                if left == 0 {
-                    return Err(error);
-                }
-                peer = open_anew(rt, source, &stamp, error, err)?;
-            }
-        }
-    }
-    drop(peer);
-    Err(STOPPED)
-}
-
-// Holds sessions as [`hold_all`] does, and prints how many they were.
-fn hold_and_report<
-    R: Disk + Net + Threads + Wait + Clock + Eprint + AllocGlobal + Sync,
-    W: Write,
-    E: Write,
->(
-    rt: &R,
-    source: &Source<'_>,
     listening: Listening<R::Listener, R::File>,
     how: &Serving,
-    out: &mut W,
-    err: &mut E,
 ) -> Result<Peer<DurableJournal<R::File>>, JobError>
 where
     R::File: Send,
-    R::Listener: Sync,
     R::Stream: Send,
-    requires { OfLocked (R.saw rt.now) source.now.file.now
-        (λ bytes. OpensUnder source.now.key bytes listening.peer) }
-    ensures served { IfOk result (λ p. OfLocked (R.saw rt.now) source.now.file.now
-        (λ bytes. ServesJournal source.now.key bytes how.now.workers p)) }
-    ensures early { (cuts : List (Option ℕ)) × ReportsEach (R.saw rt.now) source.now.file.now cuts
-        (E.contents err.old) (E.contents err.new) }
-    ensures ok { OnOk result
-        (Appends (W.contents out.old) (W.contents out.new) (line_of_sessions how.now.sessions)) }
-    ensures err { IfErr result
-        (λ _. AppendsPart (W.contents out.old) (W.contents out.new)
-        (line_of_sessions how.now.sessions)) }
+    ensures ok { IfOk result (λ p. WasServed listening.peer how.now.workers p) }
 {
     let Listening {
         listener,
         port: _,
         peer,
     } = listening;
-    match hold_all(rt, source, &listener, how, peer, err) {
+    match seat_peer(rt.alloc(), peer, how.workers) {
+        Ok((served, seats)) => {
+            match hold_counted::<Brand, R, DurableJournal<R::File>>(
+                rt,
+                &listener,
+                how,
+                &served,
+                seats,
+                Blank::new(SERVE_PLACES),
+            ) {
+                Ok(back) => Ok(end_serving(served, back)?),
+                Err(error) => Err(error),
+            }
+        }
+        Err(error) => Err(JobError::Command(error)),
+    }
+}
+
+// Holds sessions as [`held`] does, and prints how many they were.
+fn held_and_reported<
+    R: Disk + Net + Threads + Wait + Clock + Eprint + AllocGlobal + Sync,
+    W: Write,
+>(
+    rt: &R,
+    listening: Listening<R::Listener, R::File>,
+    how: &Serving,
+    out: &mut W,
+) -> Result<Peer<DurableJournal<R::File>>, JobError>
+where
+    R::File: Send,
+    R::Stream: Send,
+    ensures served { IfOk result (λ p. WasServed listening.peer how.now.workers p) }
+    ensures ok { OnOk result
+        (Appends (W.contents out.old) (W.contents out.new) (line_of_sessions how.now.sessions)) }
+    ensures err { IfErr result
+        (λ _. AppendsPart (W.contents out.old) (W.contents out.new)
+        (line_of_sessions how.now.sessions)) }
+{
+    match hold_sessions(rt, listening, how) {
         Ok(peer) => match tell_sessions(rt.alloc(), how.sessions, out) {
             Ok(()) => Ok(peer),
             Err(error) => {
@@ -358,36 +212,24 @@ where
     }
 }
 
-// Prints the port, holds the sessions, and prints how many they were. The peer that the last closing gave back.
-fn serve_on<
-    R: Disk + Net + Threads + Wait + Clock + Eprint + AllocGlobal + Sync,
-    W: Write,
-    E: Write,
->(
+// Prints the port, holds the sessions, and prints how many they were. The peer that the closing gave back.
+fn serve_on<R: Disk + Net + Threads + Wait + Clock + Eprint + AllocGlobal + Sync, W: Write>(
     rt: &R,
-    source: &Source<'_>,
     listening: Listening<R::Listener, R::File>,
     how: &Serving,
     out: &mut W,
-    err: &mut E,
 ) -> Result<Peer<DurableJournal<R::File>>, JobError>
 where
     R::File: Send,
-    R::Listener: Sync,
     R::Stream: Send,
-    requires { OfLocked (R.saw rt.now) source.now.file.now
-        (λ bytes. OpensUnder source.now.key bytes listening.peer) }
-    ensures served { IfOk result (λ p. OfLocked (R.saw rt.now) source.now.file.now
-        (λ bytes. ServesJournal source.now.key bytes how.now.workers p)) }
-    ensures early { (cuts : List (Option ℕ)) × ReportsEach (R.saw rt.now) source.now.file.now cuts
-        (E.contents err.old) (E.contents err.new) }
+    ensures served { IfOk result (λ p. WasServed listening.peer how.now.workers p) }
     ensures ok { OnOk result
         (GrowsBy (IsServeOutput how.now.sessions) (W.contents out.old) (W.contents out.new)) }
     ensures err { IfErr result
         (λ _. GrowsPart (IsServeOutput how.now.sessions) (W.contents out.old) (W.contents out.new)) }
 {
     match tell_port(rt.alloc(), listening.port, out) {
-        Ok(()) => hold_and_report(rt, source, listening, how, out, err),
+        Ok(()) => held_and_reported(rt, listening, how, out),
         Err(error) => {
             drop(listening);
             Err(error)
@@ -395,15 +237,10 @@ where
     }
 }
 
-/// Serves the journal at a path, with as many sessions at once as there are workers, 1 to 64; of 64 one holds none, since a seat of
-/// the peer is that of its watch. The port on which it listens is printed before the first session, and how many sessions there
-/// were after the last. What was cut off the journal is said once it listens. Where it is verbose a line of each session is printed
-/// by the runtime as it ends, and not to `err`.
-///
-/// Each second the journal is looked at. Where it was moved, removed, replaced or cut, it ends as `JournalFailed`. Where it fails
-/// else, as on a full disk, the sessions end, and it is opened anew once that can be, under the same port; what was cut off it is
-/// said then. One that fails after the last session was accepted ends it as `JournalFailed`. The peer that the last closing gave
-/// back.
+/// Serves the journal at a path, with as many sessions at once as there are workers, 1 to 64. The port on which it listens
+/// is printed before the first session, and how many sessions there were after the last. What was cut off the journal
+/// is said once it listens. Where it is verbose a line of each session is printed by the runtime as it ends, and not to
+/// `err`. The peer that the closing gave back; one whose journal failed meanwhile is refused.
 pub fn serve_file<
     R: Disk + Net + Threads + Wait + Clock + Eprint + AllocGlobal + Sync,
     W: Write,
@@ -420,14 +257,14 @@ pub fn serve_file<
 ) -> Result<Peer<DurableJournal<R::File>>, JobError>
 where
     R::File: Send,
-    R::Listener: Sync,
     R::Stream: Send,
     requires { cut.old ≡ None }
     ensures cuts { OnOk result (cut.new ≡ None) }
     ensures may_cut { OnErr result
         (MayCutFile (R.saw rt.now) file.now cut.new) }
-    ensures early { (cuts : List (Option ℕ)) × ReportsEach (R.saw rt.now) file.now cuts
-        (E.contents err.old) (E.contents err.new) }
+    ensures early { (kept : Option ℕ)
+        × MayCutFile (R.saw rt.now) file.now kept
+        × Reports file.now kept None (E.contents err.old) (E.contents err.new) }
     ensures served { IfOk result (λ p. OfLocked (R.saw rt.now) file.now
         (λ bytes. ServesJournal key bytes how.now.workers p)) }
     ensures ok { OnOk result
@@ -435,16 +272,12 @@ where
     ensures err { IfErr result (λ _. Keeps (W.contents out.old) (W.contents out.new)
         ⊎ GrowsPart (IsServeOutput how.now.sessions) (W.contents out.old) (W.contents out.new)) }
 {
-    let source = Source {
-        file,
-        key,
-        wait: how.wait,
-    };
-    match listen(rt, &source, addr, cut) {
+    let actor = draw_actor(rt, key)?;
+    match listen(rt, file, addr, actor, how.wait, cut) {
         Ok(listening) => {
             report(rt.alloc(), file, *cut, None, err);
             *cut = None;
-            serve_on(rt, &source, listening, how, out, err)
+            serve_on(rt, listening, how, out)
         }
         Err(error) => Err(error),
     }

@@ -6,8 +6,6 @@ use Rattle.std.specs.Str.{chars}
 use Rattle.tp_simulate.specs.Script.{IsScriptOutput as IsScriptPrinted, PrintsPart, StopsAtLine}
 use Rattle.tp_textpeer.specs.Show.{IsLogOfText, utf8_line as text_line}
 use Rattle.tp_commands.specs.Diff.{IsDiff}
-use Rattle.tp_commands.specs.declared.diff.DiffForm.{DiffForm}
-use Rattle.tp_commands.specs.declared.diff.DiffForm.TheVariants.{Lines, Unified}
 use Rattle.tp_commands.specs.Graph.{IsChangeGraph}
 use Rattle.tp_commands.specs.Log.{AreChangeLines}
 use Rattle.tp_commands.specs.Pretty.{IsPrettyLog}
@@ -31,7 +29,7 @@ use Rattle.tp_program.specs.Files.{IsLoaded, IsRecoveryOutput, OfGiven, OfInsert
 use Rattle.tp_program.specs.Lines.{AreImportLines, AreUpdateLines, IsEditLine, IsMergeLine, IsNewLine}
 use Rattle.tp_program.specs.Rescuing.{IsChecked}
 use Rattle.tp_report.specs.JobError.{IsOfOutput, io_failure}
-use Rattle.tp_report.specs.Telling.{GrowsBy, GrowsPart, RefusesPrinting}
+use Rattle.tp_report.specs.Telling.{GrowsBy, GrowsPart, RefusesPrinting, Reports}
 use Rattle.tp_online.specs.Network.{AreFrames, IsPageShown, IsServeOutput, IsSynced}
 use Rattle.tp_online.specs.Sessions.{HasMet, IsFollowed, ReportsEach}
 
@@ -43,11 +41,6 @@ IsShown printed = (log : List ℕ) × (text : List ℕ) × IsLogOfText log text 
 abbrev pub IsLogPrinted : Bool → ℕ → List ℕ → List ℕ → Type 0
 IsLogPrinted true most journal printed = IsPrettyLog journal most printed
 IsLogPrinted false most journal printed = AreChangeLines journal most printed
-
--- how `diff` prints: the lines that differ, or these with others for `patch`
-abbrev pub form_of : Bor (List ℕ) → Option ℕ → DiffForm
-form_of file None = Lines
-form_of file (Some n) = Unified file n
 
 -- The bytes are what is printed of the job where it was done: of `text`, `heads`, `log`, `graph`, `diff`, `status` and `cursor`
 -- what the bytes say that were read of the file; of `show` the text of a log; of `new` the identifier that is drawn; of `edit` the
@@ -68,8 +61,7 @@ IsFilesPrinted saw (Text file is_raw heads) printed = OfFile saw file.now (λ jo
 IsFilesPrinted saw (Heads file) printed = OfFile saw file.now (λ journal. AreHeadLines journal printed)
 IsFilesPrinted saw (Log file pretty most) printed = OfFile saw file.now (λ journal. IsLogPrinted pretty most journal printed)
 IsFilesPrinted saw (Graph file) printed = OfFile saw file.now (λ journal. IsChangeGraph journal printed)
-IsFilesPrinted saw (Diff file from to context) printed =
-    OfFile saw file.now (λ journal. IsDiff (form_of file context) journal from.items to.items printed)
+IsFilesPrinted saw (Diff file from to) printed = OfFile saw file.now (λ journal. IsDiff journal from.items to.items printed)
 IsFilesPrinted saw (Status file) printed = OfFile saw file.now (λ journal. (lock : Lock) × IsStatus journal lock printed)
 IsFilesPrinted saw (Cursor file at heads) printed = OfFile saw file.now (λ journal. IsCursorLine journal at heads.items printed)
 IsFilesPrinted saw (Check file) printed = OfFile saw file.now (λ bytes. IsChecked bytes None printed)
@@ -140,13 +132,13 @@ abbrev pub WasHeld : (DiskView → Type 0) → Job → Option ℕ → Type 0
 WasHeld saw (Session file is_client key) reported = (n : ℕ) × (reported ≡ Some n) × (p' : PeerState) × HasMet saw file.now key (side_of is_client) n p'
 WasHeld saw job reported = Unit {0}
 
--- What the error stream holds of what a job reports before it ends: of a server and a page what was cut off, each time that the
--- journal was opened; of one that follows, what was cut off, after each session.
+-- What the error stream holds of what a job reports before it ends: of a server and a page, once they listen, what was
+-- cut off; of one that follows, what was cut off, after each session.
 abbrev pub ReportsEarly : (DiskView → Type 0) → Job → Option (List ℕ) → Option (List ℕ) → Type 0
 ReportsEarly saw (Serve file addr sessions workers patience is_verbose key) before after =
-    (cuts : List (Option ℕ)) × ReportsEach saw file.now cuts before after
+    (cut : Option ℕ) × MayCutFile saw file.now cut × Reports file.now cut None before after
 ReportsEarly saw (Web file hosting key) before after =
-    (cuts : List (Option ℕ)) × ReportsEach saw file.now cuts before after
+    (cut : Option ℕ) × MayCutFile saw file.now cut × Reports file.now cut None before after
 ReportsEarly saw (Follow file addr every sessions patience key) before after =
     (cuts : List (Option ℕ)) × ReportsEach saw file.now cuts before after
 ReportsEarly saw job before after = Keeps before after

@@ -172,6 +172,7 @@ struct Letters {
     hal: Ran,
     ida: Ran,
     joe: Ran,
+    kim: Ran,
 }
 
 impl Letters {
@@ -179,15 +180,16 @@ impl Letters {
     fn is_of_ida_alone(&self, listening: &str) -> bool {
         self.ida.has_printed("applied 0\n")
             && self.joe.was_refused("", "textpeer: RefusedByOther\n")
+            && self.kim.was_refused("", "textpeer: Io\n")
             && self.hal.was_refused(listening, "textpeer: JournalFailed\n")
     }
 }
 
-// Ida's session with the server, once it listens, and then Joe's.
-fn sync_both<R: Disk + Net + Threads + Wait + Clock + Eprint + AllocGlobal + Sync>(
+// Ida's session with the server, once it listens, then Joe's and Kim's.
+fn sync_each<R: Disk + Net + Threads + Wait + Clock + Eprint + AllocGlobal + Sync>(
     rt: &R,
     place: &Place,
-) -> (Ran, Ran)
+) -> (Ran, Ran, Ran)
 where
     R::File: Send,
     R::Listener: Sync,
@@ -195,7 +197,8 @@ where
 {
     let ida = sync(rt, "ida", place.as_str());
     let joe = sync_once(rt, "joe", place.as_str());
-    (ida, joe)
+    let kim = sync_once(rt, "kim", place.as_str());
+    (ida, joe, kim)
 }
 
 // Removes the files, where they are there.
@@ -206,7 +209,7 @@ fn remove_all<R: Files>(rt: &R, files: &[&str]) {
 }
 
 // Hal's disk fails while he serves his journal: it takes Ida's change, and of Joe's nothing, a part, or all, but doesn't
-// bring that to its ground. Joe's session is refused, and as it is the last, the serving ends with the error. Hal's
+// bring that to its ground. Joe's session is refused, and so is Kim's; after it the serving ends with the error. Hal's
 // journal has what was answered to Ida; once Hal has a disk again, Joe's change enters, if it didn't.
 #[test]
 fn a_journal_fails_while_it_is_served(rt: HostRuntime) -> Result<(), Fail> {
@@ -216,25 +219,25 @@ fn a_journal_fails_while_it_is_served(rt: HostRuntime) -> Result<(), Fail> {
         (Device::new(9, 0, 2), "ida hal joe\n"),
     ];
     assert!(rt; begin(&rt, "first", "hal", &[]));
-    let copies = ["hal", "ida", "joe"];
+    let copies = ["hal", "ida", "joe", "kim"];
     for (disk, text) in rows {
         remove_all(&rt, &copies);
         assert!(rt; copy_all(&rt, "first", &copies));
         assert!(rt; insert(&rt, "ida", "0", "ida ").status == 0);
         assert!(rt; insert(&rt, "joe", "3", " joe").status == 0);
         let place = Place::free(&rt)?;
-        let (hal, (ida, joe)) = join(
+        let (hal, (ida, joe, kim)) = join(
             &rt,
             || {
                 let over = OverDisk {
                     rt: &rt,
                     disk: &disk,
                 };
-                serve(&over, "hal", place.as_str(), "2")
+                serve(&over, "hal", place.as_str(), "3")
             },
-            || sync_both(&rt, &place),
+            || sync_each(&rt, &place),
         );
-        let reported = Letters { hal, ida, joe };
+        let reported = Letters { hal, ida, joe, kim };
         assert!(rt; reported.is_of_ida_alone(place.output_with(rt.alloc(), "")?.as_str()));
         assert!(rt; all_read(&rt, &["hal"], text));
         assert!(rt; all_read(&rt, &["joe"], "ida hal joe\n"));

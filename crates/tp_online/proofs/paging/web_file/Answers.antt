@@ -1,12 +1,25 @@
-use Rattle.std.proofs.Common.{inr}
-use Rattle.tp_online.proofs.FollowLaws.{reports_more, reports_once}
+use Rattle.std.proofs.Common.{subst}
+use Rattle.tp_opid.specs.declared.actor.Actor.{Actor}
+use Rattle.std.proofs.lemmas.Result.{IfOk-weaker}
+use Rattle.tp_disk.specs.Opening.{OpensJournal}
 use Rattle.tp_online.proofs.paging.web_file.Goals as goal
 
--- what was cut off was said as it began, and then each time that it was opened anew
-pub returns-in-Ok-clause-early : goal.returns-in-Ok-clause-early
-returns-in-Ok-clause-early g c =
-    let saw = g.R.Folders.saw c.args.rt.now in
-    let file = c.args.file.now in
-    reports_more saw file (g.E.Write.contents c.args.err.now) (g.E.Write.contents c.report.new.err) (g.E.Write.contents c.show_at.new.err)
-    (reports_once saw file (g.E.Write.contents c.args.err.now) (g.E.Write.contents c.report.new.err) c.listen.new.cut (inr c.in-Ok.ensures.cuts) c.report.ensures)
-    c.show_at.ensures.early
+-- the peer that was shown is the one that was opened on what was read of the file
+pub returns-in-Ok-clause-shown : goal.returns-in-Ok-clause-shown
+returns-in-Ok-clause-shown g c =
+    let key = c.in_ok-actor.ensures in
+    let read = c.in-Ok.ensures.opens in
+    IfOk-weaker c.show_at.result _ _ (λ p shown. (
+      read.0,
+      read.1,
+      record {
+        peer = c.in-Ok.listening.peer;
+        opens = record {
+          generator = key.0;
+          keyed = key.1;
+          opens = subst (λ (a : Actor). OpensJournal read.0 a c.in-Ok.listening.peer) key.2 read.2;
+        };
+        shown = shown;
+      },
+    ))
+    c.show_at.ensures.shown

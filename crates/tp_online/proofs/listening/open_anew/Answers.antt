@@ -1,6 +1,0 @@
-use Rattle.tp_online.proofs.FollowLaws.{reports_more}
-use Rattle.tp_online.proofs.listening.open_anew.Goals as goal
-
-pub loop-preserved : goal.loop-preserved
-loop-preserved g c =
-    reports_more (g.R.Folders.saw c.args.rt.now) c.args.source.now.file.now (g.E.Write.contents c.args.err.now) (g.E.Write.contents c.loop.err) (g.E.Write.contents c.open_and_report.new.err) c.loop.invariant c.open_and_report.ensures.early
