@@ -267,7 +267,7 @@ where
         } => {
             let how = Serving {
                 sessions,
-                workers: workers.clamp(1, 64) as usize,
+                workers: workers.clamp(1, 63) as usize,
                 patience: patience_of(patience),
                 is_verbose,
                 wait,
