@@ -6,6 +6,8 @@ use Rattle.std.specs.Str.{chars}
 use Rattle.tp_simulate.specs.Script.{IsScriptOutput as IsScriptPrinted, PrintsPart, StopsAtLine}
 use Rattle.tp_textpeer.specs.Show.{IsLogOfText, utf8_line as text_line}
 use Rattle.tp_commands.specs.Diff.{IsDiff}
+use Rattle.tp_commands.specs.declared.diff.DiffForm.{DiffForm}
+use Rattle.tp_commands.specs.declared.diff.DiffForm.TheVariants.{Lines, Unified}
 use Rattle.tp_commands.specs.Graph.{IsChangeGraph}
 use Rattle.tp_commands.specs.Log.{AreChangeLines}
 use Rattle.tp_commands.specs.Pretty.{IsPrettyLog}
@@ -42,6 +44,11 @@ abbrev pub IsLogPrinted : Bool → ℕ → List ℕ → List ℕ → Type 0
 IsLogPrinted true most journal printed = IsPrettyLog journal most printed
 IsLogPrinted false most journal printed = AreChangeLines journal most printed
 
+-- how `diff` prints: the lines that differ, or these with others for `patch`
+abbrev pub form_of : Bor (List ℕ) → Option ℕ → DiffForm
+form_of file None = Lines
+form_of file (Some n) = Unified file n
+
 -- The bytes are what is printed of the job where it was done: of `text`, `heads`, `log`, `graph`, `diff`, `status` and `cursor`
 -- what the bytes say that were read of the file; of `show` the text of a log; of `new` the identifier that is drawn; of `edit` the
 -- hash of the change that was made, or `nothing`; of `update` and `import` those of the changes that made the text that of a
@@ -61,7 +68,8 @@ IsFilesPrinted saw (Text file is_raw heads) printed = OfFile saw file.now (λ jo
 IsFilesPrinted saw (Heads file) printed = OfFile saw file.now (λ journal. AreHeadLines journal printed)
 IsFilesPrinted saw (Log file pretty most) printed = OfFile saw file.now (λ journal. IsLogPrinted pretty most journal printed)
 IsFilesPrinted saw (Graph file) printed = OfFile saw file.now (λ journal. IsChangeGraph journal printed)
-IsFilesPrinted saw (Diff file from to) printed = OfFile saw file.now (λ journal. IsDiff journal from.items to.items printed)
+IsFilesPrinted saw (Diff file from to context) printed =
+    OfFile saw file.now (λ journal. IsDiff (form_of file context) journal from.items to.items printed)
 IsFilesPrinted saw (Status file) printed = OfFile saw file.now (λ journal. (lock : Lock) × IsStatus journal lock printed)
 IsFilesPrinted saw (Cursor file at heads) printed = OfFile saw file.now (λ journal. IsCursorLine journal at heads.items printed)
 IsFilesPrinted saw (Check file) printed = OfFile saw file.now (λ bytes. IsChecked bytes None printed)
