@@ -14,7 +14,7 @@ ghost use Rattle.tp_disk.specs.DiskView.{ChangesFile, OfFile};
 ghost use Rattle.tp_disk.specs.Opening.{CutsFile, MayCutFile};
 ghost use Rattle.tp_program.specs.Lines.{IsEditLine, IsMergeLine, IsNewLine, made_line as line_of_made};
 ghost use Rattle.tp_report.specs.Names.{WasMade, output_of_made};
-ghost use Rattle.tp_program.specs.Output.{CutsFor, IsFilesPrinted, IsLogPrinted, IsShown, RefusesCheckOutput, RefusesFilesOutput, RefusesRecoveryOutput, RefusesScriptOutput, MayCutFor, form_of as form_asked};
+ghost use Rattle.tp_program.specs.Output.{CutsFor, IsFilesPrinted, IsLogPrinted, IsShown, RefusesCheckOutput, RefusesFilesOutput, RefusesRecoveryOutput, RefusesScriptOutput, MayCutFor, form_of};
 ghost use Rattle.tp_report.specs.Telling.{GrowsBy, RefusesPrinting};
 ghost use Rattle.tp_program.specs.Rescuing.{IsChecked, OfOthers};
 ghost use Rattle.tp_report.specs.JobError.{IsAllSaid};
@@ -120,7 +120,7 @@ pub fn carry_out<D: Disk + AllocGlobal, I: Read, W: Write>(
             from,
             to,
             context,
-        } => put(out, diff(rt, file, &from, &to, &form_of(file, context))),
+        } => put(out, diff(rt, file, &from, &to, context)),
         FileJob::Status { file } => put(out, status(rt, file)),
         FileJob::Cursor { file, at, heads } => put(out, cursor(rt, file, at as usize, &heads)),
         FileJob::Check { file } => check_file(rt, file, out),
@@ -230,30 +230,28 @@ fn graph<D: Disk + AllocGlobal>(rt: &D, file: &str) -> Result<String, CommandErr
     graph_lines(rt.alloc(), rt.recover(file)?)
 }
 
-// How `diff` prints.
-fn form_of<'a>(file: &'a str, context: Option<u64>) -> DiffForm<'a>
-    ensures { result ≡ form_asked file context }
-{
-    match context {
-        Some(lines) => DiffForm::Unified {
-            file,
-            context: lines as usize,
-        },
-        None => DiffForm::Lines,
-    }
-}
-
+// Prints for `patch` where lines with those that differ are asked for.
 fn diff<D: Disk + AllocGlobal>(
     rt: &D,
     file: &str,
     from: &[Hash],
     to: &[Hash],
-    form: &DiffForm,
+    context: Option<u64>,
 ) -> Result<String, CommandError>
     ensures { IfOk result (λ l. OfFile (D.saw rt.now) file.now
-        (λ journal. IsDiff form.now journal from.now to.now (string_bytes l))) }
+        (λ journal. IsDiff (form_of file context) journal from.now to.now (string_bytes l))) }
 {
-    diff_lines(rt.alloc(), rt.recover(file)?, from, to, form)
+    let read = rt.recover(file)?;
+    match context {
+        Some(lines) => {
+            let form = DiffForm::Unified {
+                file,
+                context: lines as usize,
+            };
+            diff_lines(rt.alloc(), read, from, to, &form)
+        }
+        None => diff_lines(rt.alloc(), read, from, to, &DiffForm::Lines),
+    }
 }
 
 fn status<D: Disk + AllocGlobal>(rt: &D, file: &str) -> Result<String, CommandError>
