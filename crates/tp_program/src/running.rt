@@ -239,7 +239,7 @@ fn diff<D: Disk + AllocGlobal>(
     context: Option<u64>,
 ) -> Result<String, CommandError>
     ensures { IfOk result (λ l. OfFile (D.saw rt.now) file.now
-        (λ journal. IsDiff (form_of file context) journal from.now to.now (string_bytes l))) }
+        (λ journal. IsDiff (form_of file.entry context) journal from.now to.now (string_bytes l))) }
 {
     let read = rt.recover(file)?;
     match context {
