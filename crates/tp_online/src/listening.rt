@@ -140,10 +140,27 @@ fn is_stop(error: &JobError) -> bool
     )
 }
 
-// Whether the file is still the one that had the stamp, and no shorter.
-fn is_kept<R: Disk>(rt: &R, file: &str, then: &Option<Stamp>) -> bool {
-    match (rt.stamp(file), then) {
-        (Some(now), Some(then)) => now.is_kept_of(then),
+// Whether the journal can be read, and has that many changes.
+fn has_changes<R: Disk>(rt: &R, file: &str, changes: usize) -> bool {
+    let Ok(read) = rt.recover(file) else {
+        return false;
+    };
+    match read.finish() {
+        Ok(recovered) => {
+            let count = recovered.document.changes().len();
+            drop(recovered);
+            count >= changes
+        }
+        Err(_) => false,
+    }
+}
+
+// Whether the file is still the one that had the stamp, no shorter, and has as many changes as the peer that stopped.
+fn is_kept<R: Disk>(rt: &R, file: &str, then: &Option<Stamp>, changes: Option<usize>) -> bool {
+    match (rt.stamp(file), then, changes) {
+        (Some(now), Some(then), Some(changes)) => {
+            now.is_kept_of(then) && has_changes(rt, file, changes)
+        }
         _ => false,
     }
 }
@@ -166,12 +183,14 @@ fn open_and_report<R: Disk + AllocGlobal, E: Write>(
 }
 
 /// The peer on a journal whose peer has stopped, as the error says, opened anew: the disk may have been full. It is tried each
-/// second, for as long as the file is the one that had the stamp. Where the error says something else, it is given back, and so it
-/// is where the file was moved, removed, replaced or cut. What was cut off the journal is said each time.
+/// second, for as long as the file is the one that had the stamp, and has as many changes as the peer had. Where the error says
+/// something else, it is given back, and so it is where the file was moved, removed, replaced or cut. What was cut off the journal
+/// is said each time.
 pub(crate) fn open_anew<R: Disk + Clock + AllocGlobal, E: Write>(
     rt: &R,
     source: &Source<'_>,
     stamp: &Option<Stamp>,
+    changes: Option<usize>,
     error: JobError,
     err: &mut E,
 ) -> Result<Peer<DurableJournal<R::File>>, JobError>
@@ -184,7 +203,7 @@ pub(crate) fn open_anew<R: Disk + Clock + AllocGlobal, E: Write>(
         return Err(error);
     }
     for _ in 0..u64::MAX {
-        if !is_kept(rt, source.file, stamp) {
+        if !is_kept(rt, source.file, stamp, changes) {
             return Err(error);
         }
         if let Ok(peer) = open_and_report(rt, source, err) {

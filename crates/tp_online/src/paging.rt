@@ -344,6 +344,7 @@ fn show_peer<
     hosting: &Hosting<'_>,
     secret: Secret,
     key: [u8; 32],
+    ending: &Ending,
     peer: Peer<DurableJournal<F>>,
 ) -> Result<Peer<DurableJournal<F>>, JobError>
 where
@@ -361,13 +362,12 @@ where
         seats,
         watch,
     } = seat_watched(rt.alloc(), peer, MAX_SEATS)?;
-    let ending = Ending::new();
     match show_counted::<Brand, R, DurableJournal<F>>(
         rt,
         bound,
         &site,
         hosting,
-        &ending,
+        ending,
         &served,
         seats,
         watch,
@@ -418,12 +418,14 @@ where
     let mut key = key;
     for _ in 0..u64::MAX {
         let stamp = rt.stamp(source.file);
-        match show_peer(rt, bound, hosting, secret, key, peer) {
+        let ending = Ending::new();
+        match show_peer(rt, bound, hosting, secret, key, &ending, peer) {
             Ok(shown) => return Ok(shown),
             Err(error) => {
                 secret = with_challenges(rt, secret.key)?;
                 key = key_or_random(rt, None)?;
-                peer = open_anew(rt, source, &stamp, error, err)?;
+                let changes = ending.change_count(rt);
+                peer = open_anew(rt, source, &stamp, changes, error, err)?;
             }
         }
     }

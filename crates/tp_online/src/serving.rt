@@ -334,7 +334,8 @@ where
                 if left == 0 {
                     return Err(error);
                 }
-                peer = open_anew(rt, source, &stamp, error, err)?;
+                let changes = ending.change_count(rt);
+                peer = open_anew(rt, source, &stamp, changes, error, err)?;
             }
         }
     }

@@ -26,10 +26,12 @@ pub(crate) enum Door {
     Beside,
 }
 
-// How far a serving has come: whether it is to end, how many connections it accepted before, and which listeners have ended.
+// How far a serving has come: whether it is to end, and with how many changes its peer has stopped then; how many connections it
+// accepted before, and which listeners have ended.
 #[derive(Clone, Copy)]
 struct Progress {
     is_due: bool,
+    changes: Option<usize>,
     connections: u64,
     main_ended: bool,
     beside_ended: bool,
@@ -65,6 +67,7 @@ impl Ending {
         Ending {
             progress: Mutex::new(Progress {
                 is_due: false,
+                changes: None,
                 connections: 0,
                 main_ended: false,
                 beside_ended: false,
@@ -72,10 +75,11 @@ impl Ending {
         }
     }
 
-    // From now on nothing more is accepted. Which listeners have ended.
-    fn set<R: Wait>(&self, rt: &R) -> (bool, bool) {
+    // From now on nothing more is accepted: the peer has stopped, with that many changes. Which listeners have ended.
+    fn set<R: Wait>(&self, rt: &R, changes: usize) -> (bool, bool) {
         let mut progress = self.progress.lock(rt);
         progress.is_due = true;
+        progress.changes = Some(changes);
         (progress.main_ended, progress.beside_ended)
     }
 
@@ -87,6 +91,11 @@ impl Ending {
     /// Whether it is due.
     pub(crate) fn is_due<R: Wait>(&self, rt: &R) -> bool {
         self.progress.lock(rt).is_due
+    }
+
+    /// How many changes the peer has, where it is due.
+    pub(crate) fn change_count<R: Wait>(&self, rt: &R) -> Option<usize> {
+        self.progress.lock(rt).changes
     }
 
     /// How many connections were accepted before.
@@ -138,7 +147,7 @@ impl<L: OpenListener, R: Wait> OpenListener for Closable<'_, L, R> {
     }
 }
 
-// Settles a peer's journal, and answers whether that went well.
+// Settles a peer's journal. Where it has stopped, the answer is how many changes it has.
 #[derive(Clone, Copy)]
 struct Look;
 
@@ -149,12 +158,15 @@ impl<J: Journal> Visitor<J> for Look {
     ghost use Rattle.tp_peer.specs.PeerState.{PeerState};
     ghost use Rattle.tp_online.specs.Watching.{IsLookedAt};
 
-    type Answer = bool;
+    type Answer = Result<(), usize>;
 
     ghost does = { λ _ p p'. IsLookedAt p p' };
 
-    fn visit(&self, peer: &mut Peer<J>) -> bool {
-        peer.settle().is_ok()
+    fn visit(&self, peer: &mut Peer<J>) -> Result<(), usize> {
+        match peer.settle() {
+            Ok(()) => Ok(()),
+            Err(_) => Err(peer.change_count()),
+        }
     }
 
     ghost serves = { λ _ p p' looked n. record { id = ap (λ (q : PeerState). q.id) looked; actor = ap (λ (q : PeerState). q.actor) looked; new = []; applied = ap (λ (q : PeerState). q.applied) looked ∙ sym (append-nil p.applied); links = λ m other. ap (λ (q : PeerState). known_of q.links m) looked } };
@@ -179,9 +191,9 @@ fn call<R: Net>(rt: &R, door: Option<SocketAddr>, has_ended: bool) {
     }
 }
 
-// Sets the ending, and calls the listeners that haven't ended.
-fn end<R: Net + Wait>(rt: &R, ending: &Ending, doors: Doors) {
-    let (main_ended, beside_ended) = ending.set(rt);
+// Sets the ending, of a peer that has stopped with that many changes, and calls the listeners that haven't ended.
+fn end<R: Net + Wait>(rt: &R, ending: &Ending, doors: Doors, changes: usize) {
+    let (main_ended, beside_ended) = ending.set(rt, changes);
     call(rt, doors.main, main_ended);
     call(rt, doors.beside, beside_ended);
 }
@@ -205,8 +217,8 @@ fn keep_watch<R: Net + Wait + Clock, J: Journal>(
             Err(RecvTimeoutError::Timeout) => {}
             _ => break,
         }
-        if !served.visit(rt, seat, &Look) {
-            end(rt, ending, doors);
+        if let Err(changes) = served.visit(rt, seat, &Look) {
+            end(rt, ending, doors, changes);
         }
     }
 }
