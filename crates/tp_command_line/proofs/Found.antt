@@ -28,7 +28,7 @@ use Rattle.tp_command_line.specs.LineError.{FailsAs, RefusesLine, IsPassedAs, Re
 use Rattle.tp_command_line.specs.declared.error.LineError.{LineError}
 use Rattle.tp_command_line.specs.declared.error.LineError.TheVariants.{Request, Fault, Value}
 use Rattle.tp_command_line.specs.declared.error.ValueError.{ValueError}
-use Rattle.tp_command_line.specs.declared.error.ValueError.TheVariants.{BadHex, BadAddress, BadPage, OutOfMemory, NotOneText, NotOneOutput}
+use Rattle.tp_command_line.specs.declared.error.ValueError.TheVariants.{BadHex, BadAddress, BadPage, OutOfMemory, NotOneText, NotOneOutput, BadTake}
 use Rattle.tp_command_line.proofs.Rows.{HasFirst, one_taken}
 use Rattle.tp_command_line.proofs.Uses.{IsUseOf, all_filled, always_given, use_of}
 
@@ -40,17 +40,18 @@ value_of name id rows found has = let given = always_given name id rows found ha
 
 -- what reads a number takes numbers alone
 number_parser : (id : Text) → is_number id ≡ true → (low high : ℕ) × (parser_named id ≡ parser.Unsigned low high)
-number_parser id is = go (is_numeric id) (bytes_eq (codes "workers") id) (bytes_eq (codes "patience") id) (bytes_eq (codes "wait") id) (bytes_eq (codes "follow") id) is
+number_parser id is = go (is_numeric id) (bytes_eq (codes "workers") id) (bytes_eq (codes "patience") id) (bytes_eq (codes "wait") id) (bytes_eq (codes "follow") id) (bytes_eq (codes "every") id) is
   where
-    go : (numeric workers patience wait follow : Bool) → (numeric || workers || patience || follow || wait) ≡ true
+    go : (numeric workers patience wait follow every : Bool) → (numeric || workers || patience || follow || wait || every) ≡ true
         → (low high : ℕ) × ((if numeric then numbers else if workers then few else if patience then waiting else if wait then waiting else if follow then pausing
-        else if is_flag id then parser.Bool else parser.String) ≡ parser.Unsigned low high)
-    go true w p l f any = (_, _, refl)
-    go false true p l f any = (_, _, refl)
-    go false false true l f any = (_, _, refl)
-    go false false false true f any = (_, _, refl)
-    go false false false false true any = (_, _, refl)
-    go false false false false false any = absurd (cc)
+        else if every then pausing else if is_flag id then parser.Bool else parser.String) ≡ parser.Unsigned low high)
+    go true w p l f e any = (_, _, refl)
+    go false true p l f e any = (_, _, refl)
+    go false false true l f e any = (_, _, refl)
+    go false false false true f e any = (_, _, refl)
+    go false false false false true e any = (_, _, refl)
+    go false false false false false true any = (_, _, refl)
+    go false false false false false false any = absurd (cc)
 
 -- a value that it takes is a number
 number_taken : (id text : Text) → is_number id ≡ true → accepts false (parser_named id) text ≡ true → (n : ℕ) × IsNumber text n
@@ -218,6 +219,7 @@ not_read kinds found name rows BadPage none is bad = (name, rows, none, is, bad)
 not_read kinds found name rows OutOfMemory none is bad = tt
 not_read kinds found name rows NotOneText none is bad = (name, rows, none, is, bad)
 not_read kinds found name rows NotOneOutput none is bad = (name, rows, none, is, bad)
+not_read kinds found name rows BadTake none is bad = (name, rows, none, is, bad)
 
 pub value_fails : {T : Type 0} (kinds : Kinds) (found : Option (Text × List Row)) (name : Text) (rows : List Row) (e : ValueError) (r : Result T LineError) → kinds ≡ []
     → found ≡ Some (name, rows) → IsErrAnd r (λ y. y ≡ Value e) → RefusesValue rows e → FailsAs kinds found r

@@ -22,19 +22,19 @@ use Rattle.tp_command_line.specs.declared.job.Job.TheVariants.{Files}
 use Rattle.tp_command_line.specs.declared.error.LineError.{LineError}
 use Rattle.tp_command_line.specs.declared.error.LineError.TheVariants.{Request, Fault, Value}
 use Rattle.tp_command_line.specs.declared.error.ValueError.{ValueError}
-use Rattle.tp_command_line.specs.declared.error.ValueError.TheVariants.{BadHex, BadAddress, BadPage, OutOfMemory, NotOneText, NotOneOutput}
+use Rattle.tp_command_line.specs.declared.error.ValueError.TheVariants.{BadHex, BadAddress, BadPage, OutOfMemory, NotOneText, NotOneOutput, BadTake}
 
--- the name of a subcommand, its `LOG`, its key, its address, its hashes, its place, its page and that one's addresses, and
--- whether it prints texts
+-- the name of a subcommand, its `LOG`, its key, its address, its hashes, its place, its page and that one's addresses,
+-- whether it prints texts, and which text counts
 abbrev Named : Type 0
-Named = Text × Option Text × Option Text × Option Text × List Text × Option Text × Option Text × Option Text × Option Text × Option Text
+Named = Text × Option Text × Option Text × Option Text × List Text × Option Text × Option Text × Option Text × Option Text × Option Text × Option Text
 
 abbrev named_log : Text × List Row → Named
-named_log p = (p.0, first_of (codes "LOG") p.1, first_of (codes "key") p.1, first_of (codes "ADDR") p.1, all_hashes p.1, one_of (codes "at") p.1, first_of (codes "PAGE") p.1, first_of (codes "serve") p.1, first_of (codes "server") p.1, one_of (codes "texts") p.1)
+named_log p = (p.0, first_of (codes "LOG") p.1, first_of (codes "key") p.1, first_of (codes "ADDR") p.1, all_hashes p.1, one_of (codes "at") p.1, first_of (codes "PAGE") p.1, first_of (codes "serve") p.1, first_of (codes "server") p.1, one_of (codes "texts") p.1, first_of (codes "take") p.1)
 
 -- those of `show` with the path
 abbrev shown : Text → Named
-shown path = (codes "show", Some path, None, None, [], None, None, None, None, None)
+shown path = (codes "show", Some path, None, None, [], None, None, None, None, None, None)
 
 -- the empty path
 no_fault_empty : (name : Text) → fault_of textpeer_app (name ∷ codes "show" ∷ [] ∷ []) ≡ []
@@ -110,20 +110,21 @@ no_address_given id rows addr serve server of = go (bytes_eq (codes "ADDR") id) 
     go false false true first second third any = ap (λ i. first_of i rows) (sym ((bytes_eq-Decides (codes "server") id).0 third)) ∙ server
     go false false false first second third any = absurd (cc)
 
--- with no key, no address, no hash, no place, no page and no texts, only memory can fail
+-- with no key, no address, no hash, no place, no page, no texts and no side, only memory can fail
 only_values : (rows : List Row) (e : ValueError) → first_of (codes "key") rows ≡ None → ((id : Text) → is_of_address id ≡ true → first_of id rows ≡ None) → all_hashes rows ≡ [] → one_of (codes "at") rows ≡ None → first_of (codes "PAGE") rows ≡ None
-    → one_of (codes "texts") rows ≡ None → RefusesValue rows e → e ≡ OutOfMemory
-only_values rows BadHex key addr heads at page texts (inl any) =
+    → one_of (codes "texts") rows ≡ None → first_of (codes "take") rows ≡ None → RefusesValue rows e → e ≡ OutOfMemory
+only_values rows BadHex key addr heads at page texts take (inl any) =
     let none : length (all_hashes rows) ≡ 0 = ap length heads in
     let some : any.0 < length (all_hashes rows) = any.2 in
     absurd (omega arith)
-only_values rows BadHex key addr heads at page texts (inr bad) = let e : None ≡ Some bad.0 = sym key ∙ bad.1 in absurd (cc)
-only_values rows BadAddress key addr heads at page texts bad = let e : None ≡ Some bad.1 = sym (addr bad.0 bad.2) ∙ bad.3 in absurd (cc)
-only_values rows BadPage key addr heads at page texts bad = let e : None ≡ Some bad.0 = sym page ∙ bad.1 in absurd (cc)
-only_values rows OutOfMemory key addr heads at page texts bad = refl
-only_values rows NotOneText key addr heads at page texts bad = let e : None ≡ Some bad.0.1.0 = sym at ∙ bad.0.1.1 in absurd (cc)
-only_values rows NotOneOutput key addr heads at page texts (inl both) = let e : None ≡ Some (codes "true") = sym texts ∙ both.0 in absurd (cc)
-only_values rows NotOneOutput key addr heads at page texts (inr none) = let e : None ≡ Some (codes "false") = sym texts ∙ none.0 in absurd (cc)
+only_values rows BadHex key addr heads at page texts take (inr bad) = let e : None ≡ Some bad.0 = sym key ∙ bad.1 in absurd (cc)
+only_values rows BadAddress key addr heads at page texts take bad = let e : None ≡ Some bad.1 = sym (addr bad.0 bad.2) ∙ bad.3 in absurd (cc)
+only_values rows BadPage key addr heads at page texts take bad = let e : None ≡ Some bad.0 = sym page ∙ bad.1 in absurd (cc)
+only_values rows OutOfMemory key addr heads at page texts take bad = refl
+only_values rows NotOneText key addr heads at page texts take bad = let e : None ≡ Some bad.0.1.0 = sym at ∙ bad.0.1.1 in absurd (cc)
+only_values rows NotOneOutput key addr heads at page texts take (inl both) = let e : None ≡ Some (codes "true") = sym texts ∙ both.0 in absurd (cc)
+only_values rows NotOneOutput key addr heads at page texts take (inr none) = let e : None ≡ Some (codes "false") = sym texts ∙ none.0 in absurd (cc)
+only_values rows BadTake key addr heads at page texts take bad = let e : None ≡ Some bad.0 = sym take ∙ bad.1 in absurd (cc)
 
 -- so it is of words that ask to show a path
 pub show_reads : (path : Text) (words : List Text) (name : Text) (rows : List Row) (e : ValueError) → AskToShow path words
@@ -139,7 +140,8 @@ show_reads path words name rows e ask is bad =
     let server : Named → Option Text = λ p. p.8 in
     let none : (id : Text) → is_of_address id ≡ true → first_of id rows ≡ None = λ id. no_address_given id rows (ap addr same) (ap serve same) (ap server same) in
     let texts : Named → Option Text = λ p. p.9 in
-    only_values rows e (ap key same) none (ap heads same) (ap at same) (ap page same) (ap texts same) bad
+    let take : Named → Option Text = λ p. p.10 in
+    only_values rows e (ap key same) none (ap heads same) (ap at same) (ap page same) (ap texts same) (ap take same) bad
 
 -- where the words have no fault, only memory can fail
 pub only_memory : (a : App) (path : Text) (words : List Text) (e : Error) → a ≡ textpeer_app → AskToShow path words

@@ -16,7 +16,7 @@ use Rattle.clap.specs.declared.builder.value_parser.ValueParser.{ValueParser}
 use Rattle.clap.specs.declared.builder.value_parser.ValueParser.TheVariants as parser
 use Rattle.clap.specs.declared.builder.value_parser.ValueParser.TheVariants.{String}
 use Rattle.tp_command_line.specs.Commands.{textpeer_app}
-use Rattle.tp_command_line.specs.Rules.{few, file_rule, flag_rule, follow_rule, key_rule, list_rule, mandatory, message_rule, most_rule, numbers, numeric, option_rule, optional_rule, options_rule, page_rule, patience_rule, pausing, required_rule, server_rule, sessions_rule, several, time_rule, waiting, workers_rule, wait_rule, context_rule}
+use Rattle.tp_command_line.specs.Rules.{few, file_rule, flag_rule, every_rule, follow_rule, key_rule, list_rule, mandatory, message_rule, most_rule, numbers, numeric, option_rule, optional_rule, options_rule, page_rule, patience_rule, pausing, required_rule, server_rule, sessions_rule, several, time_rule, waiting, workers_rule, wait_rule, context_rule}
 use Rattle.tp_command_line.specs.Uses.{IsUse, always_has, has_default, is_required, shape_named}
 use Rattle.tp_command_line.specs.Values.{parser_named}
 use Rattle.tp_command_line.proofs.Rows.{AllFilled, AllTaken, HasFirst, or_else_none, values_taken, with_values_filled, without_filled}
@@ -105,6 +105,12 @@ del_sound = single_sound numbers (placed 2 (mandatory (numeric (option_rule (cod
 whole_text_sound : IsSound (placed 2 (required_rule (codes "TEXT")))
 whole_text_sound = single_sound String (placed 2 (required_rule (codes "TEXT"))) refl refl refl
 
+note_sound : IsSound (placed 2 (required_rule (codes "NOTE")))
+note_sound = single_sound String (placed 2 (required_rule (codes "NOTE"))) refl refl refl
+
+take_sound : IsSound (placed 2 (option_rule (codes "take")))
+take_sound = single_sound String (placed 2 (option_rule (codes "take"))) refl refl refl
+
 text_sound : IsSound (placed 2 (option_rule (codes "text")))
 text_sound = single_sound String (placed 2 (option_rule (codes "text"))) refl refl refl
 
@@ -165,6 +171,9 @@ wait_sound = single_sound waiting (placed 2 wait_rule) refl refl refl
 follow_sound : IsSound (placed 2 follow_rule)
 follow_sound = record { fills = optional_fills pausing (codes "5") (placed 2 follow_rule) refl refl refl; defaults = refl; reading = refl }
 
+every_sound : IsSound (placed 2 every_rule)
+every_sound = record { fills = optional_fills pausing (codes "1") (placed 2 every_rule) refl refl refl; defaults = refl; reading = refl }
+
 verbose_sound : IsSound (placed 2 (flag_rule (codes "verbose")))
 verbose_sound = record { fills = flag_fills (placed 2 (flag_rule (codes "verbose"))) refl; defaults = refl; reading = refl }
 
@@ -195,6 +204,9 @@ pretty_sound = record { fills = flag_fills (placed 2 (flag_rule (codes "pretty")
 
 client_sound : IsSound (placed 2 (flag_rule (codes "client")))
 client_sound = record { fills = flag_fills (placed 2 (flag_rule (codes "client"))) refl; defaults = refl; reading = refl }
+
+words_sound : IsSound (placed 2 (flag_rule (codes "words")))
+words_sound = record { fills = flag_fills (placed 2 (flag_rule (codes "words"))) refl; defaults = refl; reading = refl }
 
 raw_sound : IsSound (placed 2 (flag_rule (codes "raw")))
 raw_sound = record { fills = flag_fills (placed 2 (flag_rule (codes "raw"))) refl; defaults = refl; reading = refl }
@@ -237,6 +249,8 @@ all_sound = assumption (
   at_sound,
   del_sound,
   whole_text_sound,
+  note_sound,
+  take_sound,
   text_sound,
   text_file_sound,
   time_sound,
@@ -257,8 +271,10 @@ all_sound = assumption (
   patience_sound,
   wait_sound,
   follow_sound,
+  every_sound,
   verbose_sound,
   client_sound,
+  words_sound,
   raw_sound,
   most_sound,
   to_sound,

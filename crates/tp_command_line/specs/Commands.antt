@@ -5,15 +5,15 @@ use Rattle.clap.specs.Simple.{new_shape as named_shape}
 use Rattle.clap.specs.Words.{App, Row, Rule, Shape, Text, app_of, first_of}
 use Rattle.clap.specs.declared.builder.command.Command.{Command}
 use Rattle.clap.specs.declared.builder.command.Command.TheViews.{out-Command}
-use Rattle.tp_command_line.specs.declared.job.FileJob.TheVariants.{New, Edit, Update, Import, Text as ReadText, Heads, Log, Graph, Diff, Status, Cursor, Check, Merge, Save, Load, Recover, Show, Simulate}
+use Rattle.tp_command_line.specs.declared.job.FileJob.TheVariants.{New, Edit, Update, Import, Mirror, Text as ReadText, Heads, Log, Graph, Diff, Status, Cursor, Check, Merge, Save, Load, Recover, Show, Simulate}
 use Rattle.tp_command_line.specs.declared.job.Beside.TheVariants.{Here, Loaded, Made, NoJournal, Nothing, Page, Read, Rescued, Streams, Text as ReadBeside, There}
 use Rattle.tp_command_line.specs.declared.job.Inserted.{Inserted}
 use Rattle.tp_command_line.specs.declared.job.Inserted.TheVariants.{Given, InFile}
 use Rattle.tp_command_line.specs.declared.job.Job.{Job}
 use Rattle.tp_command_line.specs.declared.job.Subject.{Subject}
-use Rattle.tp_command_line.specs.declared.job.Job.TheVariants.{Files, Follow, Serve, Session, Sync, Web}
-use Rattle.tp_command_line.specs.Rules.{file_rule, flag_rule, follow_rule, key_rule, list_rule, mandatory, message_rule, most_rule, numeric, option_rule, optional_rule, options_rule, page_rule, patience_rule, required_rule, server_rule, sessions_rule, several, time_rule, workers_rule, wait_rule, context_rule}
-use Rattle.tp_command_line.specs.Values.{HasAddress, HasFlag, HasHashes, HasHeads, HasHosting, HasKey, HasNumber, HasTexts, MayHaveNumber}
+use Rattle.tp_command_line.specs.declared.job.Job.TheVariants.{Files, Follow, Keep, Serve, Session, Sync, Web}
+use Rattle.tp_command_line.specs.Rules.{every_rule, file_rule, flag_rule, follow_rule, key_rule, list_rule, mandatory, message_rule, most_rule, numeric, option_rule, optional_rule, options_rule, page_rule, patience_rule, required_rule, server_rule, sessions_rule, several, time_rule, workers_rule, wait_rule, context_rule}
+use Rattle.tp_command_line.specs.Values.{HasAddress, HasFlag, HasHashes, HasHeads, HasHosting, HasKey, HasNumber, HasTake, HasTexts, MayHaveNumber}
 
 -- ---- shapes
 
@@ -50,6 +50,11 @@ update_shape = with_rules (codes "update") ((whole_text_shape (codes "update")).
 abbrev pub import_shape : Shape
 import_shape = whole_text_shape (codes "import")
 
+-- `mirror FILE NOTE [--take SIDE] [--every [SECONDS]] [--wait SECONDS] [--key HEX]`
+abbrev pub mirror_shape : Shape
+mirror_shape = with_rules (codes "mirror")
+    (file_rule ∷ required_rule (codes "NOTE") ∷ option_rule (codes "take") ∷ every_rule ∷ wait_rule ∷ key_rule ∷ [])
+
 -- `text FILE [--raw] [HASH ..]`
 abbrev pub text_shape : Shape
 text_shape = with_rules (codes "text") (file_rule ∷ flag_rule (codes "raw") ∷ several (codes "HASH") ∷ [])
@@ -66,10 +71,10 @@ log_shape = with_rules (codes "log") (file_rule ∷ flag_rule (codes "pretty") �
 abbrev pub graph_shape : Shape
 graph_shape = with_rules (codes "graph") (file_rule ∷ [])
 
--- `diff FILE [HASH ..] [--to HASH ..] [--unified N]`
+-- `diff FILE [HASH ..] [--to HASH ..] [--unified N] [--words]`
 abbrev pub diff_shape : Shape
 diff_shape = with_rules (codes "diff")
-    (file_rule ∷ several (codes "HASH") ∷ options_rule (codes "to") ∷ context_rule ∷ [])
+    (file_rule ∷ several (codes "HASH") ∷ options_rule (codes "to") ∷ context_rule ∷ flag_rule (codes "words") ∷ [])
 
 -- `status FILE`
 abbrev pub status_shape : Shape
@@ -146,7 +151,7 @@ bare_app = record {
 abbrev pub journals_app : App
 journals_app = record {
   top = record bare_app.top { is_leaf = false };
-  subs = new_shape ∷ edit_shape ∷ update_shape ∷ import_shape ∷ text_shape ∷ heads_shape ∷ log_shape ∷ graph_shape ∷ diff_shape ∷ status_shape
+  subs = new_shape ∷ edit_shape ∷ update_shape ∷ import_shape ∷ mirror_shape ∷ text_shape ∷ heads_shape ∷ log_shape ∷ graph_shape ∷ diff_shape ∷ status_shape
       ∷ cursor_shape ∷ check_shape ∷ [];
 }
 
@@ -189,15 +194,18 @@ IsJobOf name rows (Files (Update file source since time message key)) = (name �
 IsJobOf name rows (Files (Import file source time message key)) = (name ≡ codes "import")
     × HasText (codes "FILE") rows file × HasText (codes "TEXT") rows source
     × HasNumber (codes "time") rows time × HasText (codes "message") rows message × HasKey rows key
+IsJobOf name rows (Files (Mirror file note take key)) = (name ≡ codes "mirror")
+    × HasText (codes "FILE") rows file × HasText (codes "NOTE") rows note × HasTake rows take × HasKey rows key
+    × MayHaveNumber (codes "every") rows None
 IsJobOf name rows (Files (ReadText file is_raw heads)) = (name ≡ codes "text")
     × HasText (codes "FILE") rows file × HasFlag (codes "raw") rows is_raw × HasHeads rows heads.items
 IsJobOf name rows (Files (Heads file)) = (name ≡ codes "heads") × HasText (codes "FILE") rows file
 IsJobOf name rows (Files (Log file pretty most)) = (name ≡ codes "log") × HasText (codes "FILE") rows file
     × HasFlag (codes "pretty") rows pretty × HasNumber (codes "most") rows most
 IsJobOf name rows (Files (Graph file)) = (name ≡ codes "graph") × HasText (codes "FILE") rows file
-IsJobOf name rows (Files (Diff file from to context)) = (name ≡ codes "diff")
+IsJobOf name rows (Files (Diff file from to context is_worded)) = (name ≡ codes "diff")
     × HasText (codes "FILE") rows file × HasHeads rows from.items × HasHashes (codes "to") rows to.items
-    × MayHaveNumber (codes "unified") rows context
+    × MayHaveNumber (codes "unified") rows context × HasFlag (codes "words") rows is_worded
 IsJobOf name rows (Files (Status file)) = (name ≡ codes "status") × HasText (codes "FILE") rows file
 IsJobOf name rows (Files (Cursor file at heads)) = (name ≡ codes "cursor")
     × HasText (codes "FILE") rows file × HasNumber (codes "AT") rows at × HasHeads rows heads.items
@@ -221,6 +229,8 @@ IsJobOf name rows (Sync file addr patience key) = (name ≡ codes "sync") × Has
 IsJobOf name rows (Follow file addr every sessions patience key) = (name ≡ codes "sync") × HasText (codes "FILE") rows file
     × HasAddress rows addr × MayHaveNumber (codes "follow") rows (Some every) × HasNumber (codes "sessions") rows sessions
     × HasNumber (codes "patience") rows patience × HasKey rows key
+IsJobOf name rows (Keep file note take every key) = (name ≡ codes "mirror") × HasText (codes "FILE") rows file × HasText (codes "NOTE") rows note
+    × HasTake rows take × HasKey rows key × MayHaveNumber (codes "every") rows (Some every)
 IsJobOf name rows (Web file hosting key) = (name ≡ codes "web") × HasText (codes "FILE") rows file × HasHosting rows hosting × HasKey rows key
 
 -- the job is that of the subcommand that was found
@@ -254,11 +264,12 @@ subject_of (Files (Edit file at del (Given text) time message key)) = record { f
 subject_of (Files (Edit file at del (InFile source) time message key)) = record { file = file; beside = ReadBeside source }
 subject_of (Files (Update file source since time message key)) = record { file = file; beside = ReadBeside source }
 subject_of (Files (Import file source time message key)) = record { file = file; beside = ReadBeside source }
+subject_of (Files (Mirror file note take key)) = record { file = file; beside = ReadBeside note }
 subject_of (Files (ReadText file is_raw heads)) = record { file = file; beside = Nothing }
 subject_of (Files (Heads file)) = record { file = file; beside = Nothing }
 subject_of (Files (Log file pretty most)) = record { file = file; beside = Nothing }
 subject_of (Files (Graph file)) = record { file = file; beside = Nothing }
-subject_of (Files (Diff file from to context)) = record { file = file; beside = Nothing }
+subject_of (Files (Diff file from to context is_worded)) = record { file = file; beside = Nothing }
 subject_of (Files (Status file)) = record { file = file; beside = Nothing }
 subject_of (Files (Cursor file at heads)) = record { file = file; beside = Nothing }
 subject_of (Files (Check file)) = record { file = file; beside = Nothing }
@@ -268,4 +279,5 @@ subject_of (Serve file addr sessions workers patience is_verbose key) = record {
 subject_of (Session file is_client key) = record { file = file; beside = Streams }
 subject_of (Sync file addr patience key) = record { file = file; beside = There addr }
 subject_of (Follow file addr every sessions patience key) = record { file = file; beside = There addr }
+subject_of (Keep file note take every key) = record { file = file; beside = ReadBeside note }
 subject_of (Web file hosting key) = record { file = file; beside = Page hosting }

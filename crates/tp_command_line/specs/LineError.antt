@@ -10,7 +10,7 @@ use Rattle.tp_command_line.specs.Values.{HasFlag, HasNumber, HasValue, IsNoAddre
 use Rattle.tp_command_line.specs.declared.error.LineError.{LineError}
 use Rattle.tp_command_line.specs.declared.error.LineError.TheVariants.{Request, Fault, Value}
 use Rattle.tp_command_line.specs.declared.error.ValueError.{ValueError}
-use Rattle.tp_command_line.specs.declared.error.ValueError.TheVariants.{BadHex, BadAddress, BadPage, OutOfMemory, NotOneText, NotOneOutput}
+use Rattle.tp_command_line.specs.declared.error.ValueError.TheVariants.{BadHex, BadAddress, BadPage, OutOfMemory, NotOneText, NotOneOutput, BadTake}
 
 -- ---- values
 
@@ -22,6 +22,7 @@ code_of_value BadPage = 2
 code_of_value OutOfMemory = 3
 code_of_value NotOneText = 13
 code_of_value NotOneOutput = 13
+code_of_value BadTake = 13
 
 -- the line that is printed of it, and below it what was expected, where that is asked for
 abbrev pub value_line : Bool → ValueError → List ℕ
@@ -34,6 +35,7 @@ value_line true BadPage = codes "textpeer: Io\n  the address of a page is IP:POR
 value_line explains OutOfMemory = codes "textpeer: OutOfMemory\n"
 value_line explains NotOneText = codes "error: one of --text <T> and --text-file <F> has to be given\n\nFor more information, try '--help'.\n"
 value_line explains NotOneOutput = codes "error: one of <OUT> and --texts has to be given\n\nFor more information, try '--help'.\n"
+value_line explains BadTake = codes "error: --take is text or journal\n\nFor more information, try '--help'.\n"
 
 abbrev pub refusal_of_hex : HexError → ValueError
 refusal_of_hex hex.BadHex = BadHex
@@ -49,8 +51,13 @@ abbrev pub HasNotOneText : List Row → Type 0
 HasNotOneText rows = ((n : ℕ) × HasNumber (codes "at") rows n)
     × (((first_of (codes "text") rows ≡ None) × (first_of (codes "text-file") rows ≡ None)) ⊎ (HasValue (codes "text") rows × HasValue (codes "text-file") rows))
 
+-- `--take` was given, with neither word
+abbrev pub HasBadTake : List Row → Type 0
+HasBadTake rows = (text : Text) × (first_of (codes "take") rows ≡ Some text) × (text ≢ codes "text") × (text ≢ codes "journal")
+
 -- Why a value of the arguments isn't read: a hash or the key isn't 64 hexadecimal digits, the address isn't one, or a page's not
--- of this machine, memory ran out, an edit has not one text, or `recover` neither a journal to make nor `--texts`, or both.
+-- of this machine, memory ran out, an edit has not one text, `recover` neither a journal to make nor `--texts`, or both, or
+-- `--take` neither `text` nor `journal`.
 abbrev pub RefusesValue : List Row → ValueError → Type 0
 RefusesValue rows BadHex = Any IsNoHash (all_hashes rows) ⊎ ((text : Text) × (first_of (codes "key") rows ≡ Some text) × IsNoHash text)
 RefusesValue rows BadAddress = (id text : Text) × IsTrue (is_of_address id) × (first_of id rows ≡ Some text) × IsNoAddress text
@@ -58,6 +65,7 @@ RefusesValue rows BadPage = (text : Text) × (first_of (codes "PAGE") rows ≡ S
 RefusesValue rows OutOfMemory = Unit {0}
 RefusesValue rows NotOneText = HasNotOneText rows
 RefusesValue rows NotOneOutput = HasNotOneOutput rows
+RefusesValue rows BadTake = HasBadTake rows
 
 -- ---- words
 
@@ -84,9 +92,10 @@ abbrev pub RefusesReading : Kinds → Option (Text × List Row) → ValueError �
 RefusesReading kinds found OutOfMemory = Unit {0}
 RefusesReading kinds found e = (name : Text) × (rows : List Row) × (kinds ≡ []) × (found ≡ Some (name, rows)) × RefusesValue rows e
 
--- The words are at no fault, but ask for an edit with not one text, or for `recover` with not one of `OUT` and `--texts`.
+-- The words are at no fault, but ask for an edit with not one text, for `recover` with not one of `OUT` and `--texts`, or for
+-- `mirror` with another word at `--take`.
 abbrev pub AskForNotOne : Kinds → Option (Text × List Row) → Type 0
-AskForNotOne kinds found = RefusesReading kinds found NotOneText ⊎ RefusesReading kinds found NotOneOutput
+AskForNotOne kinds found = RefusesReading kinds found NotOneText ⊎ (RefusesReading kinds found NotOneOutput ⊎ RefusesReading kinds found BadTake)
 
 -- Why there is no job: help or the version is asked for, the words have that fault, or a value isn't read.
 abbrev pub RefusesLine : Kinds → Option (Text × List Row) → LineError → Type 0

@@ -102,6 +102,14 @@ follow_rule = record (option_rule (codes "follow")) {
   missing = codes "5" ∷ [];
 }
 
+-- `--every` alone is each second
+abbrev pub every_rule : Rule
+every_rule = record (option_rule (codes "every")) {
+  parser = Some pausing;
+  range = Some (record { start_inclusive = 0; end_inclusive = 1 });
+  missing = codes "1" ∷ [];
+}
+
 -- the time is 0 where it is left out
 abbrev pub time_rule : Rule
 time_rule = record (numeric (option_rule (codes "time"))) { defaults = codes "0" ∷ [] }

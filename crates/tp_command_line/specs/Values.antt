@@ -11,6 +11,8 @@ use Rattle.std.specs.Str.Parse.{IsNumeral, digits_value, without_leading_plus}
 use Rattle.clap.specs.Words.{Row, Text, all_of, first_of, one_of}
 use Rattle.clap.specs.declared.builder.value_parser.ValueParser.{ValueParser}
 use Rattle.clap.specs.declared.builder.value_parser.ValueParser.TheVariants as parser
+use Rattle.tp_mirror.specs.declared.first_use.Take.{Take}
+use Rattle.tp_mirror.specs.declared.first_use.Take.TheVariants.{Text as TakeText, Journal as TakeJournal}
 use Rattle.tp_opid.specs.HexText.{IsHexOf}
 use Rattle.tp_opid.specs.declared.hash.Hash.{Hash}
 use Rattle.tp_command_line.specs.Rules.{few, numbers, pausing, waiting}
@@ -165,6 +167,17 @@ IsOfThisMachine addr = MatchIp (socket_ip addr) IsLoopbackV4 IsLoopbackV6
 abbrev pub HasPage : List Row → SocketAddr → Type 0
 HasPage rows addr = (text : Text) × (first_of (codes "PAGE") rows ≡ Some text) × IsSocketText text addr × IsOfThisMachine addr
 
+-- which text counts at the first use of a mirror, where that is said
+abbrev pub IsTakeIn : Option Text → Option Take → Type 0
+IsTakeIn None None = Unit {0}
+IsTakeIn None (Some take) = ⊥
+IsTakeIn (Some text) None = ⊥
+IsTakeIn (Some text) (Some TakeText) = text ≡ codes "text"
+IsTakeIn (Some text) (Some TakeJournal) = text ≡ codes "journal"
+
+abbrev pub HasTake : List Row → Option Take → Type 0
+HasTake rows take = IsTakeIn (first_of (codes "take") rows) take
+
 -- where the page is, where sessions are served beside it, and which server is followed, are what was given
 pub record HasHosting (rows : List Row) (hosting : Hosting) : Type 0 where
   pub page : HasPage rows hosting.page
@@ -183,14 +196,15 @@ is_numeric id = list_any (λ n. bytes_eq n id) (codes "AT" ∷ codes "at" ∷ co
 
 -- the arguments that are flags
 abbrev pub is_flag : Text → Bool
-is_flag id = list_any (λ n. bytes_eq n id) (codes "client" ∷ codes "verbose" ∷ codes "raw" ∷ codes "pretty" ∷ codes "texts" ∷ [])
+is_flag id = list_any (λ n. bytes_eq n id) (codes "client" ∷ codes "verbose" ∷ codes "raw" ∷ codes "pretty" ∷ codes "texts" ∷ codes "words" ∷ [])
 
 -- what reads the values of an argument
 abbrev pub parser_named : Text → ValueParser
 parser_named id = if is_numeric id then numbers else if bytes_eq (codes "workers") id then few
     else if bytes_eq (codes "patience") id then waiting else if bytes_eq (codes "wait") id then waiting else if bytes_eq (codes "follow") id then pausing
+    else if bytes_eq (codes "every") id then pausing
     else if is_flag id then parser.Bool else parser.String
 
 -- the argument has a number as its value
 abbrev pub is_number : Text → Bool
-is_number id = is_numeric id || bytes_eq (codes "workers") id || bytes_eq (codes "patience") id || bytes_eq (codes "follow") id || bytes_eq (codes "wait") id
+is_number id = is_numeric id || bytes_eq (codes "workers") id || bytes_eq (codes "patience") id || bytes_eq (codes "follow") id || bytes_eq (codes "wait") id || bytes_eq (codes "every") id

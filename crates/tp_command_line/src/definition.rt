@@ -2,8 +2,8 @@
 
 ghost use Rattle.std.specs.Prelude.{◌≡◌, ◌∷◌, IfOk, [], false, codes};
 ghost use Rattle.clap.specs.Words.{App, Shape, app_of, rule_of, with_subcommand};
-ghost use Rattle.tp_command_line.specs.Commands.{IsLeaf, bare_app, cursor_shape, diff_shape, edit_at_shape, edit_shape, files_app, journals_app, load_shape, log_shape, merge_shape, new_shape, recover_shape, serve_shape, session_shape, sync_shape, text_shape, textpeer_app, update_shape, web_shape, whole_text_shape, with_rules};
-ghost use Rattle.tp_command_line.specs.Rules.{file_rule, flag_rule, follow_rule, list_rule, mandatory, message_rule, most_rule, numeric, option_rule, optional_rule, options_rule, page_rule, patience_rule, required_rule, server_rule, sessions_rule, several, time_rule, workers_rule, wait_rule, context_rule};
+ghost use Rattle.tp_command_line.specs.Commands.{IsLeaf, bare_app, cursor_shape, diff_shape, edit_at_shape, edit_shape, files_app, journals_app, load_shape, log_shape, merge_shape, mirror_shape, new_shape, recover_shape, serve_shape, session_shape, sync_shape, text_shape, textpeer_app, update_shape, web_shape, whole_text_shape, with_rules};
+ghost use Rattle.tp_command_line.specs.Rules.{every_rule, file_rule, flag_rule, follow_rule, list_rule, mandatory, message_rule, most_rule, numeric, option_rule, optional_rule, options_rule, page_rule, patience_rule, required_rule, server_rule, sessions_rule, several, time_rule, workers_rule, wait_rule, context_rule};
 
 use clap::builder::ValueParser;
 use clap::{Arg, ArgAction, Command, value_parser};
@@ -84,7 +84,8 @@ fn journal_commands<'a>(alloc: Global) -> Result<Command<'a>, AllocError>
             "Example:\n  textpeer import notes.journal notes.txt",
         ),
     );
-    let read = with(imported, text_command(alloc));
+    let mirrored = with(imported, mirror_command(alloc));
+    let read = with(mirrored, text_command(alloc));
     let headed = with(
         read,
         file_command(
@@ -335,6 +336,22 @@ fn follow<'a>(alloc: Global) -> Arg<'a>
     .default_missing_value("5")
 }
 
+// How often a mirror looks, where it goes on.
+fn every<'a>(alloc: Global) -> Arg<'a>
+    ensures rule { rule_of result ≡ every_rule }
+    ensures local { result.global ≡ false }
+{
+    option(
+        alloc,
+        "every",
+        "SECONDS",
+        "goes on, and looks again each SECONDS, 1 to 86400; each second if none are given",
+    )
+    .num_args(0..=1)
+    .value_parser(ValueParser::unsigned(1, 86400))
+    .default_missing_value("1")
+}
+
 // An option without a value.
 fn flag<'a>(alloc: Global, id: &'a str, help: &'a str) -> Arg<'a>
     ensures rule { rule_of result ≡ flag_rule id.entry.now }
@@ -525,6 +542,37 @@ fn update_command<'a>(alloc: Global) -> Result<Command<'a>, AllocError>
     .arg(since(alloc))
 }
 
+// Which text counts at the first use.
+fn take<'a>(alloc: Global) -> Arg<'a>
+    ensures rule { rule_of result ≡ option_rule (codes "take") }
+    ensures local { result.global ≡ false }
+{
+    option(
+        alloc,
+        "take",
+        "SIDE",
+        "which text counts at the first use, where the two differ: text, and the journal's stays in its history; or journal, and \
+         NOTE's is kept as NOTE.before",
+    )
+}
+
+fn mirror_command<'a>(alloc: Global) -> Result<Command<'a>, AllocError>
+    ensures { IfOk result (IsLeaf mirror_shape) }
+{
+    pair_command(
+        alloc,
+        "mirror",
+        "Brings a text file and a journal in step: what an editor saved is merged into the journal, and then the file has the journal's text",
+        "Example:\n  textpeer mirror notes.journal notes.txt\n  textpeer mirror notes.journal notes.txt --every",
+        "NOTE",
+        "a text file, which any editor writes; it is made where there is none",
+    )?
+    .arg(take(alloc))?
+    .arg(every(alloc))?
+    .arg(wait(alloc))?
+    .arg(key(alloc))
+}
+
 fn text_command<'a>(alloc: Global) -> Result<Command<'a>, AllocError>
     ensures { IfOk result (IsLeaf text_shape) }
 {
@@ -588,6 +636,18 @@ fn context<'a>(alloc: Global) -> Arg<'a>
     .value_parser(value_parser!(u64))
 }
 
+// Whether the lines that differ are printed with marks within them.
+fn words<'a>(alloc: Global) -> Arg<'a>
+    ensures rule { rule_of result ≡ flag_rule (codes "words") }
+    ensures local { result.global ≡ false }
+{
+    flag(
+        alloc,
+        "words",
+        "prints each line that differs once, with [-what went-] and {+what came+} in their places",
+    )
+}
+
 fn diff_command<'a>(alloc: Global) -> Result<Command<'a>, AllocError>
     ensures { IfOk result (IsLeaf diff_shape) }
 {
@@ -596,14 +656,16 @@ fn diff_command<'a>(alloc: Global) -> Result<Command<'a>, AllocError>
         "diff",
         "Prints which lines of an earlier text became which of a later one, by what was really typed and deleted",
         "Example:\n  textpeer diff notes.journal $(textpeer heads notes.journal)\n  \
-         textpeer diff notes.journal $(cat notes.heads) -U 3 | patch notes.txt",
+         textpeer diff notes.journal $(cat notes.heads) -U 3 | patch notes.txt\n  \
+         textpeer diff notes.journal $(cat notes.heads) --words",
     )?
     .arg(hashes(
         alloc,
         "the heads of the earlier text; the empty text of the beginning if left out",
     ))?
     .arg(later_heads(alloc))?
-    .arg(context(alloc))
+    .arg(context(alloc))?
+    .arg(words(alloc))
 }
 
 fn cursor_command<'a>(alloc: Global) -> Result<Command<'a>, AllocError>

@@ -26,11 +26,13 @@ pub enum ValueError {
     NotOneText,
     /// `recover` has neither a journal to make nor `--texts`, or both: a fault of the words.
     NotOneOutput,
+    /// `--take` has neither `text` nor `journal`: a fault of the words.
+    BadTake,
 }
 
 impl ValueError {
     /// The number of the refusal among those of the program: 1 `BadHex`, 2 `BadAddress` and `BadPage`, as of what fails outside,
-    /// 3 `OutOfMemory`, 13 `NotOneText` and `NotOneOutput`.
+    /// 3 `OutOfMemory`, 13 `NotOneText`, `NotOneOutput` and `BadTake`.
     pub fn code(&self) -> u8
         ensures { result ≡ code_of_value self.now }
     {
@@ -38,7 +40,7 @@ impl ValueError {
             ValueError::BadHex => 1,
             ValueError::BadAddress | ValueError::BadPage => 2,
             ValueError::OutOfMemory => 3,
-            ValueError::NotOneText | ValueError::NotOneOutput => 13,
+            ValueError::NotOneText | ValueError::NotOneOutput | ValueError::BadTake => 13,
         }
     }
 
@@ -64,6 +66,8 @@ impl ValueError {
                 "error: one of --text <T> and --text-file <F> has to be given\n\nFor more information, try '--help'.\n",
             (ValueError::NotOneOutput, _) =>
                 "error: one of <OUT> and --texts has to be given\n\nFor more information, try '--help'.\n",
+            (ValueError::BadTake, _) =>
+                "error: --take is text or journal\n\nFor more information, try '--help'.\n",
         }
     }
 }

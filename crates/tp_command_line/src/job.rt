@@ -11,11 +11,12 @@ use crate::address::Address;
 use crate::error::ValueError;
 use crate::values::{
     address_if_given, address_of, flag_of, hashes_of, inserted_of, key_of, number_in, number_of,
-    output_of, page_of, text_of, texts_given,
+    output_of, page_of, take_of, text_of, texts_given,
 };
 use clap::ArgMatches;
 use std::alloc::Global;
 use std::net::SocketAddr;
+use tp_mirror::Take;
 use tp_opid::Hash;
 
 /// The text that an edit inserts.
@@ -83,6 +84,17 @@ pub enum FileJob<'a> {
         /// The key.
         key: Option<[u8; 32]>,
     },
+    /// Brings a journal and a text file that any editor writes in step.
+    Mirror {
+        /// The path of the journal.
+        file: &'a str,
+        /// The path of the text file.
+        note: &'a str,
+        /// Which text counts at the first use, where the two have different ones; if that is said.
+        take: Option<Take>,
+        /// The key.
+        key: Option<[u8; 32]>,
+    },
     /// Prints the text.
     Text {
         /// The path of the journal.
@@ -121,6 +133,8 @@ pub enum FileJob<'a> {
         to: Vec<Hash>,
         /// How many lines are printed before and after those that differ, where that is given.
         context: Option<u64>,
+        /// Whether what goes and what comes is marked within the lines.
+        is_worded: bool,
     },
     /// Prints what a journal has, and who has it open.
     Status {
@@ -242,6 +256,19 @@ pub enum Job<'a> {
         /// The key.
         key: Option<[u8; 32]>,
     },
+    /// Keeps a journal and a text file that any editor writes in step.
+    Keep {
+        /// The path of the journal.
+        file: &'a str,
+        /// The path of the text file.
+        note: &'a str,
+        /// Which text counts at the first use, where the two have different ones; if that is said.
+        take: Option<Take>,
+        /// How many seconds pass before it looks again: 1 to 86,400.
+        every: u64,
+        /// The key.
+        key: Option<[u8; 32]>,
+    },
     /// Shows a journal as a page of this machine.
     Web {
         /// The path of the journal.
@@ -312,6 +339,7 @@ impl<'a> Job<'a> {
             Job::Session { file, .. } => (file, Beside::Streams),
             Job::Sync { file, addr, .. } => (file, Beside::There(*addr)),
             Job::Follow { file, addr, .. } => (file, Beside::There(*addr)),
+            Job::Keep { file, note, .. } => (file, Beside::Text(note)),
             Job::Web { file, hosting, .. } => (file, Beside::Page(*hosting)),
         };
         Subject { file, beside }
@@ -341,6 +369,7 @@ fn subject_of_files<'a>(job: &FileJob<'a>) -> Subject<'a>
         FileJob::Edit { file, .. } => (file, Beside::Nothing),
         FileJob::Update { file, source, .. } => (file, Beside::Text(source)),
         FileJob::Import { file, source, .. } => (file, Beside::Text(source)),
+        FileJob::Mirror { file, note, .. } => (file, Beside::Text(note)),
         FileJob::Text { file, .. } => (file, Beside::Nothing),
         FileJob::Heads { file } => (file, Beside::Nothing),
         FileJob::Log { file, .. } => (file, Beside::Nothing),
@@ -403,6 +432,33 @@ fn import_of<'a>(found: &ArgMatches<'a>) -> Result<Job<'a>, ValueError>
     }))
 }
 
+// What `mirror` asks for, once or for good.
+fn mirror_of<'a>(found: &ArgMatches<'a>) -> Result<Job<'a>, ValueError>
+    requires { IsUse (codes "mirror") (rows_of (found_of found.now)) }
+    ensures ok { IfOk result (IsJobOf (codes "mirror") (rows_of (found_of found.now))) }
+    ensures err { IfErr result (RefusesValue (rows_of (found_of found.now))) }
+{
+    let file = text_of(found, "mirror", "FILE");
+    let note = text_of(found, "mirror", "NOTE");
+    let take = take_of(found)?;
+    let key = key_of(found)?;
+    match number_in(found, "mirror", "every") {
+        Some(every) => Ok(Job::Keep {
+            file,
+            note,
+            take,
+            every,
+            key,
+        }),
+        None => Ok(Job::Files(FileJob::Mirror {
+            file,
+            note,
+            take,
+            key,
+        })),
+    }
+}
+
 // What `recover` asks for.
 fn recover_of<'a>(alloc: Global, found: &ArgMatches<'a>) -> Result<Job<'a>, ValueError>
     requires { IsUse (codes "recover") (rows_of (found_of found.now)) }
@@ -427,6 +483,7 @@ fn diff_of<'a>(alloc: Global, found: &ArgMatches<'a>) -> Result<Job<'a>, ValueEr
         from: hashes_of(alloc, found, "HASH")?,
         to: hashes_of(alloc, found, "to")?,
         context: number_in(found, "diff", "unified"),
+        is_worded: flag_of(found, "diff", "words"),
     }))
 }
 
@@ -525,6 +582,7 @@ pub(crate) fn job_of<'a>(
         "edit" => edit_of(found),
         "update" => update_of(alloc, found),
         "import" => import_of(found),
+        "mirror" => mirror_of(found),
         "text" => Ok(Job::Files(FileJob::Text {
             file: text_of(found, name, "FILE"),
             is_raw: flag_of(found, name, "raw"),

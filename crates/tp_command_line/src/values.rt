@@ -6,7 +6,7 @@ ghost use Rattle.clap.specs.Words.{first_of, found_of, rows_of};
 ghost use Rattle.tp_command_line.specs.Commands.{HasInserted, HasOutput};
 ghost use Rattle.tp_command_line.specs.LineError.{RefusesValue};
 ghost use Rattle.tp_command_line.specs.Uses.{IsUse, always_has};
-ghost use Rattle.tp_command_line.specs.Values.{HasAddress, HasFlag, HasHashes, HasKey, HasNumber, HasPage, HasTexts, MayHaveAddress, MayHaveNumber, is_number, is_of_address, is_of_hashes, parser_named};
+ghost use Rattle.tp_command_line.specs.Values.{HasAddress, HasFlag, HasHashes, HasKey, HasNumber, HasPage, HasTake, HasTexts, MayHaveAddress, MayHaveNumber, is_number, is_of_address, is_of_hashes, parser_named};
 
 use crate::address::Address;
 use crate::error::ValueError;
@@ -15,6 +15,7 @@ use crate::texts::{address_in, digits_in, hashes_in, page_in};
 use clap::ArgMatches;
 use std::alloc::{AllocError, Global};
 use std::net::SocketAddr;
+use tp_mirror::Take;
 use tp_opid::Hash;
 
 /// The value of an argument that the subcommand always has.
@@ -89,6 +90,19 @@ pub(crate) fn output_of<'a>(found: &ArgMatches<'a>) -> Result<Option<&'a str>, V
         (true, None) => Ok(None),
         (true, Some(_)) => Err(ValueError::NotOneOutput),
         (false, None) => Err(ValueError::NotOneOutput),
+    }
+}
+
+/// Which text counts at the first use of a mirror, where that is said.
+pub(crate) fn take_of(found: &ArgMatches<'_>) -> Result<Option<Take>, ValueError>
+    ensures ok { IfOk result (HasTake (rows_of (found_of found.now))) }
+    ensures err { IfErr result (RefusesValue (rows_of (found_of found.now))) }
+{
+    match given_text(found, "take") {
+        Some("text") => Ok(Some(Take::Text)),
+        Some("journal") => Ok(Some(Take::Journal)),
+        Some(_) => Err(ValueError::BadTake),
+        None => Ok(None),
     }
 }
 

@@ -8,6 +8,7 @@ pub mod LogLines
 pub mod PartLaws
 pub mod PrettyLaws
 pub mod SinceLaws
+pub mod GrowthLaws
 pub mod StatusLaws
 pub mod TextCuts
 pub mod Updates

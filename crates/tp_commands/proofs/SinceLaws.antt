@@ -71,7 +71,7 @@ one_of_few_at actor time message C H ss (c ∷ cs) h few = last h.0 h.1 h.2 h.3 
         absurd (omega (arith, all, full, few))
 
 -- a peer that runs runs an edit
-steps_running : (p p' : PeerState) (H : List Hash) (asked : EditRequest) (answer : Result (Option Hash) EditAtError) → p.stopped ≡ false → StepsAt p H asked answer p'
+pub steps_running : (p p' : PeerState) (H : List Hash) (asked : EditRequest) (answer : Result (Option Hash) EditAtError) → p.stopped ≡ false → StepsAt p H asked answer p'
     → MatchResult answer (λ made. EditsAt p H asked made p') (λ e. RefusesEditAt p H asked e p')
 unfolding StepsAt
 steps_running p p' H asked answer running step =

@@ -15,7 +15,7 @@ use Rattle.tp_journal.specs.declared.error.JournalError.TheVariants as journal
 use Rattle.tp_store.specs.declared.error.StoreError.{StoreError}
 use Rattle.tp_store.specs.declared.error.StoreError.TheVariants as store
 use Rattle.tp_commands.specs.declared.error.CommandError.{CommandError}
-use Rattle.tp_commands.specs.declared.error.CommandError.TheVariants.{Io, OutOfMemory, Peer, Doc, Store, Busy, NotText, NotEmpty}
+use Rattle.tp_commands.specs.declared.error.CommandError.TheVariants.{Io, OutOfMemory, Peer, Doc, Store, Busy, NotText, NotEmpty, NotQuiet, BothHaveText, BadState}
 
 -- the number of a refusal
 abbrev pub code_of : CommandError → ℕ
@@ -27,6 +27,9 @@ code_of (Store e) = 5
 code_of Busy = 6
 code_of (NotText at) = 10
 code_of NotEmpty = 11
+code_of NotQuiet = 13
+code_of BothHaveText = 14
+code_of BadState = 15
 
 -- a file or a stream failed, or a growth was refused
 abbrev pub IsOfSystem : CommandError → Type 0

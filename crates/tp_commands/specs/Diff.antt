@@ -10,11 +10,12 @@ use Rattle.tp_hunks.specs.Hunks.{AreFileHunks, AreHunks}
 use Rattle.tp_hunks.specs.Lines.{file_lines, lines_of_text}
 use Rattle.tp_hunks.specs.Printing.{hunk_lines}
 use Rattle.tp_hunks.specs.Unified.{unified_text}
+use Rattle.tp_hunks.specs.Words.{words_text}
 use Rattle.tp_hunks.specs.declared.replacing.Replacement.{Replacement}
 use Rattle.tp_hunks.specs.declared.trimming.Hunk.{Hunk}
 use Rattle.tp_edit.specs.Text.{IsTextOf}
 use Rattle.tp_commands.specs.declared.diff.DiffForm.{DiffForm}
-use Rattle.tp_commands.specs.declared.diff.DiffForm.TheVariants.{Lines, Unified}
+use Rattle.tp_commands.specs.declared.diff.DiffForm.TheVariants.{Lines, Unified, Words}
 use Rattle.tp_commands.specs.Naming.{name_lines}
 use Rattle.tp_commands.specs.Reading.{HasChanges, changes_at_heads}
 
@@ -57,15 +58,23 @@ pub record IsPatchOf (context : ℕ) (old new : List ℕ) (ds : List Difference)
   pub are_hunks : AreFileHunksOf old new ds hunks
   pub spelled : printed ≡ unified_text (file_lines old) (file_lines new) context hunks
 
+-- What is printed is the old text with what the differences take out and what they put in, as far as lines differ.
+pub record IsWordedOf (context : ℕ) (old new : List ℕ) (ds : List Difference) (printed : List ℕ) : Type 0 where
+  pub replacements : List Replacement
+  pub are : AreReplacementsOf new ds replacements
+  pub spelled : printed ≡ words_text old replacements context
+
 -- what is printed in each form
 abbrev pub IsPrintedAs : DiffForm → List ℕ → List ℕ → List Difference → List ℕ → Type 0
 IsPrintedAs Lines old new ds printed = IsDiffOf old new ds printed
 IsPrintedAs (Unified file context) old new ds printed = IsPatchOf context old new ds printed
+IsPrintedAs (Words context) old new ds printed = IsWordedOf context old new ds printed
 
 -- the names of both texts before what `patch` takes, where that is anything
 abbrev pub with_names : DiffForm → List Hash → List Hash → List ℕ → List ℕ
 with_names (Unified file context) from to (b ∷ printed) = name_lines file.now from to ++ (b ∷ printed)
 with_names (Unified file context) from to [] = []
+with_names (Words context) from to printed = printed
 with_names Lines from to printed = printed
 
 -- What is printed is what leads from the text of the past of some heads to that of others, or to the text of all changes where

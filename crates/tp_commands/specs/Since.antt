@@ -19,6 +19,7 @@ use Rattle.tp_recovery.specs.Recovery.{Recovers}
 use Rattle.tp_peer.specs.Actors.{has_actor}
 use Rattle.tp_peer.specs.Appending.{JournalState}
 use Rattle.tp_peer.specs.EditingAt.{RefusesEditAt}
+use Rattle.tp_peer.specs.Links.{known_of}
 use Rattle.tp_peer.specs.Opening.{Reopens}
 use Rattle.tp_peer.specs.PeerState.{PeerState}
 use Rattle.tp_peer.specs.declared.editing_at.EditAtError.{EditAtError}
@@ -28,6 +29,14 @@ use Rattle.tp_commands.specs.CommandError.{refusal_of_edit_at}
 use Rattle.tp_commands.specs.Cutting.{AreStretchesCut}
 use Rattle.tp_commands.specs.Refusing.{RefusesJournalOpening}
 use Rattle.tp_commands.specs.Updating.{IsFullBefore, IsNotUpdated, UpdatesJournal, hashes_of}
+
+-- The peer is the same document under the same actor, and knows what it knew on each link; its list grew at its end.
+pub record GrowsAlone (p p' : PeerState) : Type 0 where
+  pub id : p'.id ≡ p.id
+  pub actor : p'.actor ≡ p.actor
+  pub new : List ChangeParts
+  pub applied : p'.applied ≡ p.applied ++ new
+  pub links : (m : ℕ) → known_of p'.links m ≡ known_of p.links m
 
 -- where changes leave off that were made each on the one before it, and the first at H
 abbrev pub heads_after : List Hash → List ChangeParts → List Hash

@@ -9,14 +9,14 @@ ghost use Rattle.tp_history.specs.Named.{has_all};
 ghost use Rattle.tp_history.specs.Past.{past};
 ghost use Rattle.tp_commands.specs.Reading.{changes_at_heads};
 ghost use Rattle.tp_commands.specs.Refusing.{HasNoTexts};
-ghost use Rattle.tp_commands.specs.Diff.{AreHunksOf, AreReplacementsOf, IsDiff, IsDiffBetween, IsDiffOf, IsPatchOf, IsPrintedAs, IsReplacementOf, LeadsFrom, with_names as text_with_names};
+ghost use Rattle.tp_commands.specs.Diff.{AreHunksOf, AreReplacementsOf, IsDiff, IsDiffBetween, IsDiffOf, IsPatchOf, IsPrintedAs, IsReplacementOf, IsWordedOf, LeadsFrom, with_names as text_with_names};
 
 use crate::error::CommandError;
 use crate::naming::name_lines;
 use crate::reading::{Text, document_in, text_in};
 use std::alloc::{AllocError, Global};
 use tp_document::{Difference, DocError};
-use tp_hunks::{Hunk, Replacement, file_hunks, hunk_text, hunks, unified_text};
+use tp_hunks::{Hunk, Replacement, file_hunks, hunk_text, hunks, unified_text, words_text};
 use tp_journal::Recovering;
 use tp_list::char_count;
 use tp_opid::Hash;
@@ -31,6 +31,11 @@ pub enum DiffForm<'a> {
     Unified {
         /// The path of the file that both texts are named after.
         file: &'a str,
+        /// How many lines are printed before and after.
+        context: usize,
+    },
+    /// The lines that differ, with what goes and what comes marked within them.
+    Words {
         /// How many lines are printed before and after.
         context: usize,
     },
@@ -120,6 +125,22 @@ fn patch_of(
     unified_text(alloc, old, new, &hunks, context)
 }
 
+// What is printed of the lines that differ, with what goes and what comes within them.
+fn words_of(
+    alloc: Global,
+    old: &[char],
+    new: &[char],
+    differences: &[Difference],
+    context: usize,
+) -> Result<String, AllocError>
+    requires { LeadsFrom old.now new.now differences.now }
+    ensures { IfOk result
+        (λ l. IsWordedOf context old.now new.now differences.now (string_bytes l)) }
+{
+    let replacements = replacements(alloc, new, differences)?;
+    words_text(alloc, old, new, &replacements, context)
+}
+
 // What is printed in a form.
 fn printed_as(
     alloc: Global,
@@ -135,6 +156,7 @@ fn printed_as(
     match form {
         DiffForm::Lines => diff_of(alloc, old, new, differences),
         DiffForm::Unified { context, .. } => patch_of(alloc, old, new, differences, *context),
+        DiffForm::Words { context } => words_of(alloc, old, new, differences, *context),
     }
 }
 
@@ -158,7 +180,7 @@ fn with_names(
             text.push_str(printed)?;
             Ok(text)
         }
-        DiffForm::Lines => String::from_str(alloc, printed),
+        DiffForm::Lines | DiffForm::Words { .. } => String::from_str(alloc, printed),
     }
 }
 
@@ -217,7 +239,8 @@ fn text_diff(
 /// none where the texts are the same.
 ///
 /// In the unified form a line has its newline, so that there is none after the last newline; the names of both texts come
-/// first, and lines that both have are printed too, as [`unified_text`](tp_hunks::unified_text) says.
+/// first, and lines that both have are printed too, as [`unified_text`](tp_hunks::unified_text) says. With words each line that
+/// differs is printed once, as [`words_text`](tp_hunks::words_text) says.
 pub fn diff_lines(
     alloc: Global,
     journal: Recovering<PeerSequence>,

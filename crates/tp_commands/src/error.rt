@@ -35,10 +35,16 @@ pub enum CommandError {
     },
     /// A text was to be brought into a document whose text isn't empty.
     NotEmpty,
+    /// A text file that is mirrored is being written, or was a moment ago.
+    NotQuiet,
+    /// At the first use of a mirror both sides have a text, and these differ.
+    BothHaveText,
+    /// The state file of a mirror isn't whole, or is another document's.
+    BadState,
 }
 
 impl CommandError {
-    /// The number of the refusal: from 1 in the order of the variants up to `Busy`, then 10 and 11, since those between
+    /// The number of the refusal: from 1 in the order of the variants up to `Busy`, then 10 to 11 and 13 to 15, since those between
     /// are of what else the program does.
     pub fn code(&self) -> u8
         ensures { result ≡ code_of self.now }
@@ -52,6 +58,9 @@ impl CommandError {
             CommandError::Busy => 6,
             CommandError::NotText { .. } => 10,
             CommandError::NotEmpty => 11,
+            CommandError::NotQuiet => 13,
+            CommandError::BothHaveText => 14,
+            CommandError::BadState => 15,
         }
     }
 }

@@ -25,6 +25,6 @@ pub use reading::{
     Recovery, cursor_line, hash_line, head_lines, id_line, made_lines, raw_text, saved_file,
     text_line,
 };
-pub use since::{Metadata, update};
+pub use since::{Metadata, rewrite_at, update};
 pub use status::{Lock, status_lines};
 pub use updating::{import, text_in_file};

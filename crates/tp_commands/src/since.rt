@@ -10,7 +10,7 @@ ghost use Rattle.tp_peer.specs.Appending.{journal_state};
 ghost use Rattle.tp_recovery.specs.Recovery.{Recovers};
 ghost use Rattle.tp_recovery.specs.Refusals.{IsJournalFault};
 ghost use Rattle.tp_store.specs.declared.error.StoreError.TheVariants.{OutOfMemory as Lack};
-ghost use Rattle.tp_commands.specs.Since.{IsNotRewrittenAt, IsNotUpdatedFrom, IsNotUpdatedSince, MakesEditsAt, MakesNextAt, MakesTextAt, StopsEditsAt, StopsNextAt, UpdatesFrom, UpdatesSince};
+ghost use Rattle.tp_commands.specs.Since.{GrowsAlone, IsNotRewrittenAt, IsNotUpdatedFrom, IsNotUpdatedSince, MakesEditsAt, MakesNextAt, MakesTextAt, StopsEditsAt, StopsNextAt, UpdatesFrom, UpdatesSince};
 
 use crate::cutting::differences_in_parts;
 use crate::editing::reopen;
@@ -35,6 +35,7 @@ pub struct Metadata<'a> {
 }
 
 // Makes one edit, of the splices that come next, on the last change that was made so, and puts its hash to the others.
+#[tactic(auto, using(crate::proofs::GrowthLaws::edit_grows))]
 fn edit_on<J: Journal>(
     peer: &mut Peer<J>,
     on: &mut Vec<Hash>,
@@ -48,6 +49,7 @@ fn edit_on<J: Journal>(
         on.old.items hashes.old.items peer.old on.new.items hashes.new.items peer.new) }
     ensures text { OnOk result (DoesSplices (past peer.old.applied on.old.items)
         (past peer.new.applied on.new.items) splices.now) }
+    ensures grows { GrowsAlone peer.old peer.new }
     ensures err { IfErr result
         (StopsNextAt by.now.actor by.now.time (chars by.now.message.now) on.old.items hashes.old.items peer.old) }
 {
@@ -77,6 +79,7 @@ fn edit_all_at<J: Journal>(
         by.now.time (chars by.now.message.now) on.new.items hashes.items peer.new) }
     ensures text { OnOk result (DoesSplices (past peer.old.applied on.old.items)
         (past peer.new.applied on.new.items) splices.now) }
+    ensures grows { GrowsAlone peer.old peer.new }
     ensures err { IfErr result (λ e. (e ≡ CommandError.OutOfMemory)
         ⊎ StopsEditsAt peer.old on.old.items by.now.actor by.now.time (chars by.now.message.now) e) }
 {
@@ -90,8 +93,10 @@ fn edit_all_at<J: Journal>(
     Ok(hashes)
 }
 
-// Makes the peer's text at the hashes another one, by their differences.
-fn rewrite_at<J: Journal>(
+/// Makes the peer's text at the hashes another one, by their differences, as [`update`](crate::update) with heads does. Answers
+/// the hashes of the changes: of none where the text was this one.
+#[tactic(auto, using(crate::proofs::GrowthLaws::same_grows))]
+pub fn rewrite_at<J: Journal>(
     alloc: Global,
     peer: &mut Peer<J>,
     since: &[Hash],
@@ -101,6 +106,7 @@ fn rewrite_at<J: Journal>(
     requires { peer.old.stopped ≡ false }
     ensures ok { IfOk result (λ hashes. MakesTextAt peer.old since.now by.now.actor
         (chars text.now) by.now.time (chars by.now.message.now) hashes.items peer.new) }
+    ensures grows { GrowsAlone peer.old peer.new }
     ensures err { IfErr result (IsNotRewrittenAt peer.old since.now by.now.actor by.now.time
         (chars by.now.message.now)) }
 {

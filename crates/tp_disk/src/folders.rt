@@ -102,6 +102,9 @@ pub trait Folders {
     /// Removes a file's path, as far as that can be done.
     fn remove(&self, path: &str);
 
+    /// Gives a file that others write the other path, in place of what is there. `false` where nothing is at its path.
+    fn move_file(&self, path: &str, other: &str) -> Result<bool, CommandError>;
+
     /// Brings to the disk which files the path's folder has, where a folder can be opened.
     fn sync_folder(&self, path: &str) -> Result<(), CommandError>
         requires { (bytes : List ℕ) × named self.now path.now bytes }
@@ -232,6 +235,14 @@ impl<R: Files + AllocGlobal> Folders for R {
 
     fn link(&self, part: &str, path: &str) -> io::Result<()> {
         fs::hard_link(self, part, path)
+    }
+
+    fn move_file(&self, path: &str, other: &str) -> Result<bool, CommandError> {
+        match fs::rename(self, path, other) {
+            Ok(()) => Ok(true),
+            Err(error) if error.kind() == ErrorKind::NotFound => Ok(false),
+            Err(error) => Err(CommandError::from(error)),
+        }
     }
 
     fn remove(&self, path: &str) {

@@ -15,6 +15,14 @@ pub struct Stamp {
     changed: (i64, i64),
 }
 
+// Nanoseconds since 1970, of seconds and nanoseconds; 0 where they were before.
+fn nanoseconds_of(time: (i64, i64)) -> u64 {
+    let (seconds, nanos) = time;
+    let seconds = u64::try_from(seconds).unwrap_or(0);
+    let nanos = u64::try_from(nanos).unwrap_or(0);
+    seconds.saturating_mul(1_000_000_000).saturating_add(nanos)
+}
+
 impl Stamp {
     /// That of the file whose metadata these are.
     pub(crate) fn of(found: &Metadata) -> Stamp {
@@ -27,6 +35,16 @@ impl Stamp {
             modified: (found.mtime(), found.mtime_nsec()),
             changed: (found.ctime(), found.ctime_nsec()),
         }
+    }
+
+    /// When the system last wrote the file, in nanoseconds since 1970; 0 where that was before.
+    pub fn write_time(&self) -> u64 {
+        nanoseconds_of(self.modified)
+    }
+
+    /// When the system last wrote it or noted anything of it, likewise.
+    pub fn note_time(&self) -> u64 {
+        nanoseconds_of(self.changed)
     }
 
     /// Whether this is the same file as then, and no shorter.

@@ -1,6 +1,6 @@
 -- The hunks of lines as files have them lead from those of the old text to those of the new one.
-use Rattle.std.proofs.Common.{◌≡◌, ◌∙◌, ◌⊎◌, inl, inr, ℕ, ◌+◌, ◌-◌, ◌≤◌, List, [], ◌∷◌, ◌++◌, length, map, take, drop, Bool, true, false, refl, ap, sym, subst, append-nil, append_assoc, length-append, arith}
-use Rattle.std.proofs.lemmas.List.{drop-drop, drop_all, length-map, map-append, take_all}
+use Rattle.std.proofs.Common.{◌≡◌, ◌∙◌, ◌⊎◌, inl, inr, ℕ, ◌+◌, ◌-◌, ◌≤◌, List, [], ◌∷◌, ◌++◌, length, map, take, drop, Bool, true, false, refl, ap, sym, subst, append-nil, length-append, arith}
+use Rattle.std.proofs.lemmas.List.{drop-drop, length-map, take_all}
 use Rattle.std.proofs.Math.Seq.{drop-append_seam, take-append_seam}
 use Rattle.std.specs.Prelude.{nat_le, if◌then◌else◌}
 use Rattle.tp_hunks.specs.declared.replacing.Replacement.{Replacement}
@@ -12,7 +12,6 @@ use Rattle.tp_hunks.specs.Lines.{LeadsText, file_lines, lines_of_text, steps_of}
 use Rattle.tp_hunks.specs.Touching.{lines_at_start, joined_with, touched_after, touched_from, touched_lines}
 use Rattle.tp_hunks.proofs.FileLines.{ended, lines_ended}
 use Rattle.tp_hunks.proofs.Leading.{LeadsTouched, touched_lead}
-use Rattle.tp_hunks.proofs.Splitting.{length-lines}
 use Rattle.tp_hunks.proofs.TrimLaws.{group_at, parts_of}
 
 -- ---- lines with their newlines

@@ -8,3 +8,4 @@ pub mod FileHunks
 pub mod HunkLaws
 pub mod PrintLaws
 pub mod UnifiedLaws
+pub mod WordLaws

@@ -3,3 +3,4 @@ pub mod Touching
 pub mod Hunks
 pub mod Printing
 pub mod Unified
+pub mod Words

@@ -8,8 +8,10 @@ mod text_lines;
 mod touching;
 mod trimming;
 mod unified;
+mod words;
 
 pub use printing::hunk_text;
 pub use replacing::Replacement;
 pub use trimming::{Hunk, file_hunks, hunks};
 pub use unified::unified_text;
+pub use words::words_text;

@@ -34,8 +34,8 @@ fn newlines(text: &[char]) -> usize
     text.iter().filter(|ch| **ch == '\n').count()
 }
 
-// What is after the first `count` characters.
-fn after_first(text: &[char], count: usize) -> &[char]
+/// What is after the first `count` characters.
+pub(crate) fn after_first(text: &[char], count: usize) -> &[char]
     requires { count ≤ length text.now }
     ensures { result.now ≡ drop count text.now }
 {

@@ -30,8 +30,8 @@ fn line_len(text: &[char]) -> usize
     len
 }
 
-// The first line of a text as files have them, and what is after it.
-fn first_line(text: &[char]) -> (&[char], &[char])
+/// The first line of a text as files have them, and what is after it.
+pub(crate) fn first_line(text: &[char]) -> (&[char], &[char])
     requires { 0 < length text.now }
     ensures lines { lines_of_file text.now ≡ result.0.now ∷ lines_of_file result.1.now }
     ensures less { length result.1.now < length text.now }

@@ -46,8 +46,12 @@ fn lone_block(at: usize, hunk: &Hunk) -> Block
     }
 }
 
-// The blocks of the hunks.
-fn blocks_of(alloc: Global, hunks: &[Hunk], context: usize) -> Result<Vec<Block>, AllocError>
+/// The blocks of the hunks.
+pub(crate) fn blocks_of(
+    alloc: Global,
+    hunks: &[Hunk],
+    context: usize,
+) -> Result<Vec<Block>, AllocError>
     ensures { IfOk result (λ blocks. blocks.items ≡ blocks_of_hunks context hunks.now) }
 {
     let mut blocks = Vec::new(alloc);
@@ -90,8 +94,8 @@ fn lines_after(context: usize, count: usize, block: &Block) -> usize
     smaller(context, (count as u128).saturating_sub(end) as usize)
 }
 
-// The lines of a block in the old text, with those before and after it.
-fn old_range(context: usize, count: usize, block: &Block) -> Range
+/// The lines of a block in the old text, with those before and after it.
+pub(crate) fn old_range(context: usize, count: usize, block: &Block) -> Range
     ensures { result ≡ range_of_old context count block.now }
 {
     let at = block

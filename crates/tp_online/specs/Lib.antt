@@ -1,4 +1,5 @@
 pub mod Refusals
+pub mod Mirroring
 pub mod Network
 pub mod Watching
 pub mod Sessions

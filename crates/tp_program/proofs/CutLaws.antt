@@ -1,7 +1,7 @@
 -- What is said of a job's journal where bytes were to be cut off it.
 use Rattle.std.proofs.Common.{◌≡◌, ◌⊎◌, ⊎_elim, ℕ, Option, None, inl, refl, subst, sym}
 use Rattle.tp_command_line.specs.declared.job.Job.{Job}
-use Rattle.tp_command_line.specs.declared.job.Job.TheVariants.{Files, Follow, Serve, Session, Sync, Web}
+use Rattle.tp_command_line.specs.declared.job.Job.TheVariants.{Files, Follow, Keep, Serve, Session, Sync, Web}
 use Rattle.tp_disk.specs.DiskView.{DiskView}
 use Rattle.tp_program.specs.Output.{MayCutForJob}
 
@@ -12,6 +12,7 @@ never saw (Serve file addr sessions workers patience is_verbose key) = inl refl
 never saw (Session file is_client key) = inl refl
 never saw (Sync file addr patience key) = inl refl
 never saw (Follow file addr every sessions patience key) = inl refl
+never saw (Keep file note take every key) = inl refl
 never saw (Web file hosting key) = inl refl
 
 -- nothing, or what may be said

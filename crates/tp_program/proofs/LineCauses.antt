@@ -3,7 +3,7 @@ use Rattle.std.proofs.Common.{◌⊎◌, [], List, Option, inl, inr, subst}
 use Rattle.std.specs.Prelude.{◌≢◌}
 use Rattle.clap.specs.Words.{IsAmong, Kinds, Row, Text, kind_of}
 use Rattle.tp_command_line.specs.LineError.{AskForNotOne, AsksForHelp, RefusesLine}
-use Rattle.tp_command_line.specs.declared.error.ValueError.TheVariants.{NotOneText, NotOneOutput}
+use Rattle.tp_command_line.specs.declared.error.ValueError.TheVariants.{NotOneText, NotOneOutput, BadTake}
 use Rattle.tp_command_line.specs.declared.error.LineError.{LineError}
 use Rattle.tp_command_line.specs.declared.error.LineError.TheVariants.{Request, Fault, Value}
 use Rattle.tp_program.specs.Words.{IsMisuse, IsRequest}
@@ -19,5 +19,6 @@ pub at_fault : (kinds : Kinds) (found : Option (Text × List Row)) (e : LineErro
 at_fault kinds found (Request e) cause is = absurd is
 at_fault kinds found (Fault e) cause is = inl (λ none. subst (λ (k : Kinds). IsAmong (kind_of e) k) none cause)
 at_fault kinds found (Value NotOneText) cause is = inr (inl cause)
-at_fault kinds found (Value NotOneOutput) cause is = inr (inr cause)
+at_fault kinds found (Value NotOneOutput) cause is = inr (inr (inl cause))
+at_fault kinds found (Value BadTake) cause is = inr (inr (inr cause))
 at_fault kinds found (Value e) cause is = absurd is

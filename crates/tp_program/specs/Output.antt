@@ -7,7 +7,7 @@ use Rattle.tp_simulate.specs.Script.{IsScriptOutput as IsScriptPrinted, PrintsPa
 use Rattle.tp_textpeer.specs.Show.{IsLogOfText, utf8_line as text_line}
 use Rattle.tp_commands.specs.Diff.{IsDiff}
 use Rattle.tp_commands.specs.declared.diff.DiffForm.{DiffForm}
-use Rattle.tp_commands.specs.declared.diff.DiffForm.TheVariants.{Lines, Unified}
+use Rattle.tp_commands.specs.declared.diff.DiffForm.TheVariants.{Lines, Unified, Words}
 use Rattle.tp_commands.specs.Graph.{IsChangeGraph}
 use Rattle.tp_commands.specs.Log.{AreChangeLines}
 use Rattle.tp_commands.specs.Pretty.{IsPrettyLog}
@@ -22,16 +22,18 @@ use Rattle.tp_session.specs.declared.session.Role.TheVariants.{Client, Server}
 use Rattle.tp_store.specs.declared.error.StoreError.{StoreError}
 use Rattle.tp_commands.specs.CommandError.{command_refusal_of_bytes}
 use Rattle.tp_command_line.specs.declared.job.FileJob.{FileJob}
-use Rattle.tp_command_line.specs.declared.job.FileJob.TheVariants.{New, Edit, Update, Import, Text, Heads, Log, Graph, Diff, Status, Cursor, Check, Merge, Save, Load, Recover, Show, Simulate}
+use Rattle.tp_command_line.specs.declared.job.FileJob.TheVariants.{New, Edit, Update, Import, Mirror, Text, Heads, Log, Graph, Diff, Status, Cursor, Check, Merge, Save, Load, Recover, Show, Simulate}
 use Rattle.tp_command_line.specs.declared.job.Job.{Job}
-use Rattle.tp_command_line.specs.declared.job.Job.TheVariants.{Files, Follow, Serve, Session, Sync, Web}
+use Rattle.tp_command_line.specs.declared.job.Job.TheVariants.{Files, Follow, Keep, Serve, Session, Sync, Web}
 use Rattle.tp_disk.specs.DiskView.{DiskView, ChangesFile, OfFile}
 use Rattle.tp_disk.specs.Opening.{CutsFile, MayCutFile}
 use Rattle.tp_program.specs.Files.{IsLoaded, IsRecoveryOutput, OfGiven, OfInserted, SavesTo}
 use Rattle.tp_program.specs.Lines.{AreImportLines, AreUpdateLines, IsEditLine, IsMergeLine, IsNewLine}
 use Rattle.tp_program.specs.Rescuing.{IsChecked}
+use Rattle.tp_mirroring.specs.Taking.{Mirrors}
 use Rattle.tp_report.specs.JobError.{IsOfOutput, io_failure}
 use Rattle.tp_report.specs.Telling.{GrowsBy, GrowsPart, RefusesPrinting}
+use Rattle.tp_online.specs.Mirroring.{MirrorTurn, TellsTurns}
 use Rattle.tp_online.specs.Network.{AreFrames, IsPageShown, IsServeOutput, IsSynced}
 use Rattle.tp_online.specs.Sessions.{HasMet, IsFollowed, ReportsEach}
 
@@ -44,15 +46,17 @@ abbrev pub IsLogPrinted : Bool → ℕ → List ℕ → List ℕ → Type 0
 IsLogPrinted true most journal printed = IsPrettyLog journal most printed
 IsLogPrinted false most journal printed = AreChangeLines journal most printed
 
--- how `diff` prints: the lines that differ, or these with others for `patch`
-abbrev pub form_of : Bor (List ℕ) → Option ℕ → DiffForm
-form_of file None = Lines
-form_of file (Some n) = Unified file n
+-- how `diff` prints: the lines that differ, or these with others for `patch`, or with marks within them
+abbrev pub form_of : Bool → Bor (List ℕ) → Option ℕ → DiffForm
+form_of false file None = Lines
+form_of false file (Some n) = Unified file n
+form_of true file None = Words 0
+form_of true file (Some n) = Words n
 
 -- The bytes are what is printed of the job where it was done: of `text`, `heads`, `log`, `graph`, `diff`, `status` and `cursor`
 -- what the bytes say that were read of the file; of `show` the text of a log; of `new` the identifier that is drawn; of `edit` the
 -- hash of the change that was made, or `nothing`; of `update` and `import` those of the changes that made the text that of a
--- file; of `merge` how many changes of the other file entered; of `save` and `load`
+-- file; of `mirror` nothing; of `merge` how many changes of the other file entered; of `save` and `load`
 -- nothing; of `check` what is in the bytes, of `recover` what could be had of them, or what their records inserted; of `simulate` the replies to the lines of a
 -- script, and the one list of its world. And the file that a job writes was left as it says.
 abbrev pub IsFilesPrinted : (DiskView → Type 0) → FileJob → List ℕ → Type 0
@@ -64,12 +68,13 @@ IsFilesPrinted saw (Update file source since time message key) printed = OfGiven
     ChangesFile saw file.now (λ before after. AreUpdateLines key since.items (chars bytes) time (chars message.now) before after printed))
 IsFilesPrinted saw (Import file source time message key) printed = OfGiven saw source.now (λ bytes.
     ChangesFile saw file.now (λ before after. AreImportLines key (chars bytes) time (chars message.now) before after printed))
+IsFilesPrinted saw (Mirror file note take key) printed = (printed ≡ []) × ((place : List ℕ) × ChangesFile saw file.now (Mirrors saw place))
 IsFilesPrinted saw (Text file is_raw heads) printed = OfFile saw file.now (λ journal. IsTextPrinted is_raw journal heads.items printed)
 IsFilesPrinted saw (Heads file) printed = OfFile saw file.now (λ journal. AreHeadLines journal printed)
 IsFilesPrinted saw (Log file pretty most) printed = OfFile saw file.now (λ journal. IsLogPrinted pretty most journal printed)
 IsFilesPrinted saw (Graph file) printed = OfFile saw file.now (λ journal. IsChangeGraph journal printed)
-IsFilesPrinted saw (Diff file from to context) printed =
-    OfFile saw file.now (λ journal. IsDiff (form_of file context) journal from.items to.items printed)
+IsFilesPrinted saw (Diff file from to context is_worded) printed =
+    OfFile saw file.now (λ journal. IsDiff (form_of is_worded file context) journal from.items to.items printed)
 IsFilesPrinted saw (Status file) printed = OfFile saw file.now (λ journal. (lock : Lock) × IsStatus journal lock printed)
 IsFilesPrinted saw (Cursor file at heads) printed = OfFile saw file.now (λ journal. IsCursorLine journal at heads.items printed)
 IsFilesPrinted saw (Check file) printed = OfFile saw file.now (λ bytes. IsChecked bytes None printed)
@@ -83,13 +88,14 @@ IsFilesPrinted saw (Simulate script) printed = IsScriptPrinted printed
 
 -- The bytes are what is printed of the job where it was done: of `serve` the port and how many sessions were held; of `sync`
 -- how many changes entered, by each session where it follows; of `session` the frames of its side; of `web` where the page is, and the
--- port of sessions beside it.
+-- port of sessions beside it. A mirror that goes on is never done.
 abbrev pub IsJobOutput : (DiskView → Type 0) → Job → List ℕ → Type 0
 IsJobOutput saw (Files job) printed = IsFilesPrinted saw job printed
 IsJobOutput saw (Serve file addr sessions workers patience is_verbose key) printed = IsServeOutput sessions printed
 IsJobOutput saw (Session file is_client key) printed = AreFrames printed
 IsJobOutput saw (Sync file addr patience key) printed = IsSynced printed
 IsJobOutput saw (Follow file addr every sessions patience key) printed = IsFollowed saw file.now key sessions printed
+IsJobOutput saw (Keep file note take every key) printed = ⊥
 IsJobOutput saw (Web file hosting key) printed = IsPageShown hosting printed
 
 -- What the error stream says of the job, where bytes were cut off the journal that it opened: from which offset on.
@@ -97,6 +103,7 @@ abbrev pub CutsFor : (DiskView → Type 0) → FileJob → Option ℕ → Type 0
 CutsFor saw (Edit file at del text time message key) cut = CutsFile saw file.now cut
 CutsFor saw (Update file source since time message key) cut = CutsFile saw file.now cut
 CutsFor saw (Import file source time message key) cut = CutsFile saw file.now cut
+CutsFor saw (Mirror file note take key) cut = CutsFile saw file.now cut
 CutsFor saw (Merge file other key) cut = CutsFile saw file.now cut
 CutsFor saw job cut = cut ≡ None
 
@@ -111,6 +118,7 @@ CutsForJob saw (Serve file addr sessions workers patience is_verbose key) cut = 
 CutsForJob saw (Session file is_client key) cut = CutsFile saw file.now cut
 CutsForJob saw (Sync file addr patience key) cut = CutsFile saw file.now cut
 CutsForJob saw (Follow file addr every sessions patience key) cut = cut ≡ None
+CutsForJob saw (Keep file note take every key) cut = ⊥
 CutsForJob saw (Web file hosting key) cut = cut ≡ None
 
 abbrev pub MayCutForJob : (DiskView → Type 0) → Job → Option ℕ → Type 0
@@ -119,6 +127,7 @@ MayCutForJob saw (Serve file addr sessions workers patience is_verbose key) cut 
 MayCutForJob saw (Session file is_client key) cut = MayCutFile saw file.now cut
 MayCutForJob saw (Sync file addr patience key) cut = MayCutFile saw file.now cut
 MayCutForJob saw (Follow file addr every sessions patience key) cut = MayCutFile saw file.now cut
+MayCutForJob saw (Keep file note take every key) cut = MayCutFile saw file.now cut
 MayCutForJob saw (Web file hosting key) cut = MayCutFile saw file.now cut
 
 -- What the error stream says of the job where it was done: of `session` how many changes entered.
@@ -128,6 +137,7 @@ ReportsApplied (Serve file addr sessions workers patience is_verbose key) report
 ReportsApplied (Session file is_client key) reported = (applied : ℕ) × (reported ≡ Some applied)
 ReportsApplied (Sync file addr patience key) reported = reported ≡ None
 ReportsApplied (Follow file addr every sessions patience key) reported = reported ≡ None
+ReportsApplied (Keep file note take every key) reported = reported ≡ None
 ReportsApplied (Web file hosting key) reported = reported ≡ None
 
 -- the side that a session is held as
@@ -141,12 +151,14 @@ WasHeld saw (Session file is_client key) reported = (n : ℕ) × (reported ≡ S
 WasHeld saw job reported = Unit {0}
 
 -- What the error stream holds of what a job reports before it ends: of a server and a page what was cut off, each time that the
--- journal was opened; of one that follows, what was cut off, after each session.
+-- journal was opened; of one that follows, what was cut off, after each session; of a mirror that goes on, what was cut off, and why a
+-- turn was refused.
 abbrev pub ReportsEarly : (DiskView → Type 0) → Job → Option (List ℕ) → Option (List ℕ) → Type 0
 ReportsEarly saw (Serve file addr sessions workers patience is_verbose key) before after =
     (cuts : List (Option ℕ)) × ReportsEach saw file.now cuts before after
 ReportsEarly saw (Web file hosting key) before after =
     (cuts : List (Option ℕ)) × ReportsEach saw file.now cuts before after
+ReportsEarly saw (Keep file note take every key) before after = (turns : List MirrorTurn) × TellsTurns saw file.now turns before after
 ReportsEarly saw (Follow file addr every sessions patience key) before after =
     (cuts : List (Option ℕ)) × ReportsEach saw file.now cuts before after
 ReportsEarly saw job before after = Keeps before after
@@ -183,6 +195,7 @@ RefusesFilesOutput saw job before e after = RefusesPrinting (IsFilesPrinted saw 
 abbrev pub RefusesOutput : (DiskView → Type 0) → Job → Option (List ℕ) → JobError → Option (List ℕ) → Type 0
 RefusesOutput saw (Files job) before e after = RefusesFilesOutput saw job before e after
 RefusesOutput saw (Serve file addr sessions workers patience is_verbose key) before e after = Keeps before after ⊎ GrowsPart (IsServeOutput sessions) before after
+RefusesOutput saw (Keep file note take every key) before e after = Keeps before after
 RefusesOutput saw (Web file hosting key) before e after = Keeps before after ⊎ GrowsPart (IsPageShown hosting) before after
 RefusesOutput saw (Session file is_client key) before e after = Keeps before after ⊎ ((e ≡ io_failure) ⊎ GrowsBy AreFrames before after)
 RefusesOutput saw (Sync file addr patience key) before e after = RefusesPrinting IsSynced before e after

@@ -7,7 +7,7 @@ use Rattle.tp_command_line.specs.LineError.{AskForNotOne, AsksForHelp, RefusesRe
 use Rattle.tp_command_line.specs.declared.error.LineError.{LineError}
 use Rattle.tp_command_line.specs.declared.error.LineError.TheVariants.{Request, Fault, Value}
 use Rattle.tp_command_line.specs.declared.error.ValueError.{ValueError}
-use Rattle.tp_command_line.specs.declared.error.ValueError.TheVariants.{NotOneText, NotOneOutput}
+use Rattle.tp_command_line.specs.declared.error.ValueError.TheVariants.{NotOneText, NotOneOutput, BadTake}
 use Rattle.tp_command_line.specs.declared.job.Job.{Job}
 use Rattle.tp_report.specs.declared.error.JobError.{JobError}
 use Rattle.tp_disk.specs.DiskView.{DiskView}
@@ -37,9 +37,11 @@ abbrev pub IsMisuse : LineError → Type 0
 IsMisuse (Fault e) = Unit {0}
 IsMisuse (Value NotOneText) = Unit {0}
 IsMisuse (Value NotOneOutput) = Unit {0}
+IsMisuse (Value BadTake) = Unit {0}
 IsMisuse e = ⊥
 
--- the words are at fault: the parser finds one, or they ask for an edit with not one text, or for a recovery with not one output
+-- the words are at fault: the parser finds one, or they ask for an edit with not one text, for a recovery with not one output, or
+-- for a mirror with another word at `--take`
 abbrev pub WereAtFault : List Text → Type 0
 WereAtFault words = (fault_of textpeer_app words ≢ []) ⊎ AskForNotOne (fault_of textpeer_app words) (subcommand_of textpeer_app words)
 

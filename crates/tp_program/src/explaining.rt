@@ -88,6 +88,10 @@ pub fn explain<W: Write, E: Write>(
             let _ = write_out(err, ValueError::NotOneOutput.line(explains).as_bytes());
             MISUSED
         }
+        LineError::Value(ValueError::BadTake) => {
+            let _ = write_out(err, ValueError::BadTake.line(explains).as_bytes());
+            MISUSED
+        }
         LineError::Value(error) => {
             let _ = write_out(err, error.line(explains).as_bytes());
             REFUSED

@@ -25,7 +25,10 @@ use std::{env, io};
 use tp_command_line::{Job, Subject, Wanted, line, words_asked};
 use tp_commands::CommandError;
 use tp_disk::{Disk, is_cut};
-use tp_online::{Following, Serving, follow_file, serve_file, session_file, sync_file, web_file};
+use tp_online::{
+    Following, Keeping, Serving, follow_file, keep_mirror, serve_file, session_file, sync_file,
+    web_file,
+};
 use tp_report::{DONE, JobError, REFUSED, Shown, ended_with, exit_status, note, note_text, report};
 use tp_session::Role;
 
@@ -306,6 +309,21 @@ where
                 wait,
             };
             without_value(follow_file(rt, file, &how, sessions, key, out, err, cut))
+        }
+        Job::Keep {
+            file,
+            note,
+            take,
+            every,
+            key,
+        } => {
+            let how = Keeping {
+                note,
+                take,
+                every: Duration::from_secs(every),
+                wait,
+            };
+            Err(keep_mirror(rt, file, &how, key, err, cut))
         }
         Job::Web { file, hosting, key } => without_value(web_file(
             rt, file, hosting, key, wait, out, err, cut,

@@ -1,6 +1,6 @@
 //! Doing a job, and what is printed of it.
 
-ghost use Rattle.std.specs.Prelude.{◌≡◌, [], map, IfOk, IfErr, IfSome, Some, None, OnErr, OnOk};
+ghost use Rattle.std.specs.Prelude.{◌≡◌, ℕ, List, [], map, IfOk, IfErr, IfSome, Some, None, OnErr, OnOk};
 ghost use Rattle.std.specs.Str.{chars};
 ghost use Rattle.std.specs.String.{string_bytes};
 ghost use Rattle.tp_simulate.specs.Script.{Prints};
@@ -18,12 +18,14 @@ ghost use Rattle.tp_program.specs.Output.{CutsFor, IsFilesPrinted, IsLogPrinted,
 ghost use Rattle.tp_report.specs.Telling.{GrowsBy, RefusesPrinting};
 ghost use Rattle.tp_program.specs.Rescuing.{IsChecked, OfOthers};
 ghost use Rattle.tp_report.specs.JobError.{IsAllSaid};
+ghost use Rattle.tp_mirroring.specs.Taking.{Mirrors};
 
 use crate::others::{Others, inserted_texts, read_others};
 use crate::rescuing::{Rescued, check_report, rescue_report};
 use crate::texts::{import_text, read_input, update_text};
 use std::alloc::Global;
 use std::io::{BufReader, Read, Write};
+use std::time::Clock;
 use tp_command_line::{FileJob, Inserted};
 use tp_commands::{
     CommandError, DiffForm, begin, cursor_line, diff_lines, edit, graph_lines, hash_line,
@@ -33,6 +35,8 @@ use tp_commands::{
 use tp_disk::{Disk, Opened, draw, draw_actor, generator, put_new, replace};
 use tp_document::Document;
 use tp_edit::Splice;
+use tp_mirror::Take;
+use tp_mirroring::{Paths, mirror, place_of};
 use tp_opid::{Actor, DocId, Hash};
 use tp_peer::{PeerSequence, create_journal};
 use tp_report::{JobError, Made, put, put_made};
@@ -45,7 +49,7 @@ use tp_textpeer::show;
 /// to `out`; where `out` itself failed, which is refused as `Io`, or was closed by who read it, it has taken a beginning of
 /// what is printed; the refusal has what a job made whose lines these were. A script is printed line by line as it goes on, and
 /// what was printed before a refusal stays. The lock of a journal that is written is waited for `wait` seconds.
-pub fn carry_out<D: Disk + AllocGlobal, I: Read, W: Write>(
+pub fn carry_out<D: Disk + Clock + AllocGlobal, I: Read, W: Write>(
     rt: &D,
     job: FileJob,
     wait: u64,
@@ -107,6 +111,12 @@ pub fn carry_out<D: Disk + AllocGlobal, I: Read, W: Write>(
             out,
             import_text(rt, file, source, input, time, message, key, wait, cut),
         ),
+        FileJob::Mirror {
+            file,
+            note,
+            take,
+            key,
+        } => put(out, mirror_files(rt, file, note, take, key, wait, cut)),
         FileJob::Text {
             file,
             is_raw,
@@ -120,7 +130,8 @@ pub fn carry_out<D: Disk + AllocGlobal, I: Read, W: Write>(
             from,
             to,
             context,
-        } => put(out, diff(rt, file, &from, &to, context)),
+            is_worded,
+        } => put(out, diff(rt, file, &from, &to, context, is_worded)),
         FileJob::Status { file } => put(out, status(rt, file)),
         FileJob::Cursor { file, at, heads } => put(out, cursor(rt, file, at as usize, &heads)),
         FileJob::Check { file } => check_file(rt, file, out),
@@ -230,28 +241,42 @@ fn graph<D: Disk + AllocGlobal>(rt: &D, file: &str) -> Result<String, CommandErr
     graph_lines(rt.alloc(), rt.recover(file)?)
 }
 
-// Prints for `patch` where lines with those that differ are asked for.
+// The form that is asked for.
+fn form_asked(file: &str, context: Option<u64>, is_worded: bool) -> DiffForm<'_>
+    ensures { result ≡ form_of is_worded file.entry context }
+{
+    match (is_worded, context) {
+        (false, None) => DiffForm::Lines,
+        (false, Some(lines)) => DiffForm::Unified {
+            file,
+            context: lines as usize,
+        },
+        (true, None) => DiffForm::Words { context: 0 },
+        (true, Some(lines)) => DiffForm::Words {
+            context: lines as usize,
+        },
+    }
+}
+
 fn diff<D: Disk + AllocGlobal>(
     rt: &D,
     file: &str,
     from: &[Hash],
     to: &[Hash],
     context: Option<u64>,
+    is_worded: bool,
 ) -> Result<String, CommandError>
     ensures { IfOk result (λ l. OfFile (D.saw rt.now) file.now
-        (λ journal. IsDiff (form_of file.entry context) journal from.now to.now (string_bytes l))) }
+        (λ journal. IsDiff (form_of is_worded file.entry context) journal from.now to.now (string_bytes l))) }
 {
     let read = rt.recover(file)?;
-    match context {
-        Some(lines) => {
-            let form = DiffForm::Unified {
-                file,
-                context: lines as usize,
-            };
-            diff_lines(rt.alloc(), read, from, to, &form)
-        }
-        None => diff_lines(rt.alloc(), read, from, to, &DiffForm::Lines),
-    }
+    diff_lines(
+        rt.alloc(),
+        read,
+        from,
+        to,
+        &form_asked(file, context, is_worded),
+    )
 }
 
 fn status<D: Disk + AllocGlobal>(rt: &D, file: &str) -> Result<String, CommandError>
@@ -394,6 +419,31 @@ fn made_line(alloc: Global, made: Option<Hash>) -> Result<(String, Option<Made>)
         Some(hash) => Ok((hash_line(alloc, &hash)?, Some(Made::Change(hash)))),
         None => Ok((String::from_str(alloc, "nothing\n")?, None)),
     }
+}
+
+// Brings a journal and a text file in step; of that nothing is printed.
+fn mirror_files<D: Disk + Clock + AllocGlobal>(
+    rt: &D,
+    file: &str,
+    note: &str,
+    take: Option<Take>,
+    key: Option<[u8; 32]>,
+    wait: u64,
+    cut: &mut Option<u64>,
+) -> Result<String, CommandError>
+    requires { cut.old ≡ None }
+    ensures cuts { OnOk result (CutsFile (D.saw rt.now) file.now cut.new) }
+    ensures may_cut { OnErr result
+        (MayCutFile (D.saw rt.now) file.now cut.new) }
+    ensures printed { IfOk result (λ l. string_bytes l ≡ []) }
+    ensures mirrors { OnOk result ((place : List ℕ) × ChangesFile (D.saw rt.now) file.now
+        (Mirrors (D.saw rt.now) place)) }
+{
+    let place = place_of(rt, note)?;
+    let paths = Paths::new(rt.alloc(), file, place.as_str())?;
+    let mut random = generator(rt, key)?;
+    mirror(rt, &paths, take, &mut random, wait, cut)?;
+    Ok(String::new(rt.alloc()))
 }
 
 fn merge_files<D: Disk + AllocGlobal>(

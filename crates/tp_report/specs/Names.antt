@@ -8,7 +8,7 @@ use Rattle.tp_opid.specs.declared.hash.Hash.{Hash}
 use Rattle.tp_commands.specs.Reading.{hash_line}
 use Rattle.tp_net.specs.declared.gate.Report.{Report}
 use Rattle.tp_commands.specs.declared.error.CommandError.{CommandError}
-use Rattle.tp_commands.specs.declared.error.CommandError.TheVariants.{Io, OutOfMemory, Peer, Doc, Store, Busy, NotText, NotEmpty}
+use Rattle.tp_commands.specs.declared.error.CommandError.TheVariants.{Io, OutOfMemory, Peer, Doc, Store, Busy, NotText, NotEmpty, NotQuiet, BothHaveText, BadState}
 use Rattle.tp_session.specs.declared.error.NetError.{NetError}
 use Rattle.tp_session.specs.declared.error.NetError.TheVariants as net
 use Rattle.tp_simulate.specs.Names.{name_of_bytes, name_of_document, name_of_peer}
@@ -29,6 +29,9 @@ name_of_command (Store e) = name_of_bytes e
 name_of_command Busy = codes "Busy"
 name_of_command (NotText at) = codes "NotText"
 name_of_command NotEmpty = codes "NotEmpty"
+name_of_command NotQuiet = codes "NotQuiet"
+name_of_command BothHaveText = codes "BothHaveText"
+name_of_command BadState = codes "BadState"
 
 -- of a session that was broken off, the innermost cause's name
 abbrev pub name_of_session : NetError → List ℕ

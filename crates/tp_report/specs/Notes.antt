@@ -2,7 +2,7 @@
 use Rattle.std.specs.Prelude.{◌≡◌, ◌⊎◌, ◌++◌, ℕ, Bool, true, false, List, [], ◌∷◌, Option, Some, None, codes}
 use Rattle.std.specs.Fmt.{decimal}
 use Rattle.std.specs.Borrow.{Bor}
-use Rattle.tp_commands.specs.declared.error.CommandError.TheVariants.{Io, OutOfMemory, Peer, Doc, Store, NotText}
+use Rattle.tp_commands.specs.declared.error.CommandError.TheVariants.{Io, OutOfMemory, Peer, Doc, Store, NotText, NotQuiet, BothHaveText, BadState}
 use Rattle.tp_document.specs.declared.error.DocError.TheVariants.{OtherDocument}
 use Rattle.tp_peer.specs.declared.error.PeerError.TheVariants.{JournalNotEmpty}
 use Rattle.tp_peer.specs.declared.error.PeerError.TheVariants as peer
@@ -20,6 +20,9 @@ abbrev pub fault_path : Beside → List ℕ → JobError → List ℕ
 fault_path (Read other) file (Command (Peer (peer.Store e))) = other.now
 fault_path (Read other) file (Command (Peer (peer.Doc OtherDocument))) = other.now
 fault_path (Text source) file (Command (NotText at)) = source.now
+fault_path (Text source) file (Command NotQuiet) = source.now
+fault_path (Text source) file (Command BothHaveText) = source.now
+fault_path (Text source) file (Command BadState) = source.now
 fault_path (Made out) file (Command (Peer JournalNotEmpty)) = out.now
 fault_path (Loaded journal) file (Command (Peer JournalNotEmpty)) = journal.now
 fault_path (Rescued (Some out) other) file (Command (Peer JournalNotEmpty)) = out.now

@@ -84,6 +84,13 @@ pub(crate) fn advice(error: CommandError) -> &'static str {
         CommandError::NotEmpty => {
             "it has a text already; textpeer update changes that to the text of a file"
         }
+        CommandError::NotQuiet => "it is being written; nothing was lost. Try again",
+        CommandError::BothHaveText => {
+            "it has another text than the journal: --take text keeps that of the file, and --take journal that of the journal; the other one is kept too"
+        }
+        CommandError::BadState => {
+            "what a mirror remembers of it isn't whole, or is of another journal: remove the file whose name ends with .mirror, and begin anew with --take"
+        }
     }
 }
 

@@ -49,7 +49,7 @@ pub enum JobError {
 impl JobError {
     /// The number of the refusal, after those of values: 2 `Io`, also where the output is closed, 3 `OutOfMemory`, then
     /// what a peer, a document or the bytes of a file were refused for, `Busy`, a log, a script, a session, `NotText`,
-    /// `NotEmpty`.
+    /// `NotEmpty`, and 14 to 16 `NotQuiet`, `BothHaveText` and `BadState`, since 13 is a fault of the words.
     pub fn code(&self) -> u8
         ensures { result ≡ code_of self.now }
     {
@@ -131,6 +131,9 @@ fn command_name(error: CommandError) -> &'static str
         CommandError::Busy => "Busy",
         CommandError::NotText { .. } => "NotText",
         CommandError::NotEmpty => "NotEmpty",
+        CommandError::NotQuiet => "NotQuiet",
+        CommandError::BothHaveText => "BothHaveText",
+        CommandError::BadState => "BadState",
     }
 }
 

@@ -32,6 +32,9 @@ fn path_at_fault<'a>(subject: &Subject<'a>, error: &JobError) -> &'a str
             JobError::Command(CommandError::Peer(PeerError::Doc(DocError::OtherDocument))),
         ) => other,
         (Beside::Text(source), JobError::Command(CommandError::NotText { .. })) => source,
+        (Beside::Text(source), JobError::Command(CommandError::NotQuiet)) => source,
+        (Beside::Text(source), JobError::Command(CommandError::BothHaveText)) => source,
+        (Beside::Text(source), JobError::Command(CommandError::BadState)) => source,
         (Beside::Made(out), JobError::Command(CommandError::Peer(PeerError::JournalNotEmpty))) => {
             out
         }

@@ -1,7 +1,7 @@
 use Rattle.std.proofs.Common.{◌≤◌, ◌-◌, length, drop}
 use Rattle.std.specs.Str.{chars}
 use Rattle.tp_history.specs.Past.{past}
-use Rattle.tp_commands.specs.Since.{MakesEditsAt}
+use Rattle.tp_commands.specs.Since.{GrowsAlone, MakesEditsAt}
 use Rattle.tp_commands.specs.Updating.{LeadOn}
 use Rattle.tp_commands.proofs.since.edit_all_at.Given as goal
 
@@ -10,6 +10,7 @@ abbrev pub invariant-loop-from : goal.invariant-loop-from
 invariant-loop-from g l = record {
   within : l.from ≤ length l.splices;
   makes : MakesEditsAt l.fn.peer l.fn.on.items l.by.actor l.splices (drop l.from l.splices) l.by.time (chars l.by.message.now) l.on.items l.hashes.items l.peer;
+  grows : GrowsAlone l.fn.peer l.peer;
   leads : LeadOn (past l.fn.peer.applied l.fn.on.items) (past l.peer.applied l.on.items) l.splices (drop l.from l.splices);
 }
 

@@ -1,4 +1,3 @@
-use Rattle.std.proofs.Common.{arith}
 use Rattle.tp_hunks.proofs.UnifiedLaws.{hunk_put}
 use Rattle.tp_hunks.proofs.unified.put_hunk.Goals as goal
 

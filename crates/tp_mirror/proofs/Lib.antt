@@ -1,0 +1,5 @@
+pub mod Keeping
+pub mod Places
+pub mod Watching
+pub mod Resulting
+pub mod StateFields

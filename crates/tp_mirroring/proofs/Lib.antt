@@ -1,0 +1,3 @@
+pub mod FolderLaws
+pub mod SeenLaws
+pub mod TurnLaws

@@ -1,0 +1,4 @@
+pub mod Beside
+pub mod Folder
+pub mod Seeing
+pub mod Taking
