@@ -15,7 +15,7 @@ _textpeer() {
     done
     local last=$((${#words[@]} - 1)) word=${words[-1]} options
     if ((last == 1)); then
-        options='new edit update import text heads log graph diff status cursor check merge save load recover show simulate serve sync session web'
+        options='new edit update import mirror text heads log graph diff status cursor check merge save load recover show simulate serve sync session web'
         [[ $word != -* ]] || options='-h --help -V --version'
         mapfile -t COMPREPLY < <(compgen -W "$options" -- "$word")
         return
@@ -27,11 +27,12 @@ _textpeer() {
     edit) values=(file) options='--at --del --text --text-file --time --message --wait --key --explain -h --help' takes='--at --del --text --text-file --time --message --wait --key' ;;
     update) values=(file file) options='--time --message --wait --key --since --explain -h --help' takes='--time --message --wait --key --since' ;;
     import) values=(file file) options='--time --message --wait --key --explain -h --help' takes='--time --message --wait --key' ;;
+    mirror) values=(file file) options='--take --every --wait --key --explain -h --help' takes='--take --wait --key' ;;
     text) values=(file hash) rest=hash options='--raw --explain -h --help' ;;
     heads) values=(file) options='--explain -h --help' ;;
     log) values=(file) options='--pretty --most --explain -h --help' takes='--most' ;;
     graph) values=(file) options='--explain -h --help' ;;
-    diff) values=(file hash) rest=hash options='--to -U --unified --explain -h --help' takes='--to -U --unified' ;;
+    diff) values=(file hash) rest=hash options='--to -U --unified --words --explain -h --help' takes='--to -U --unified' ;;
     status) values=(file) options='--explain -h --help' ;;
     cursor) values=(file other hash) rest=hash options='--explain -h --help' ;;
     check) values=(file) options='--explain -h --help' ;;

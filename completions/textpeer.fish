@@ -11,7 +11,7 @@ function __textpeer_place
     set -l words (commandline -opc)[3..]
     set -l place 1
     while set -q words[1]
-        if contains -- $words[1] --at --del --follow --key --message --most --patience --serve --sessions --since --text --text-file --time --to --unified --wait --with --workers -U
+        if contains -- $words[1] --at --del --follow --key --message --most --patience --serve --sessions --since --take --text --text-file --time --to --unified --wait --with --workers -U
             set -e words[1]
             set -q words[1]; or set place 0
         else if not string match -q -- '-*' $words[1]
@@ -68,6 +68,15 @@ complete -c textpeer -n '__textpeer_does import; and not __fish_contains_opt wai
 complete -c textpeer -n '__textpeer_does import; and not __fish_contains_opt key' -l key -x -d 'the seed of the random numbers, in 64 hexadecimal digits; from /dev/urandom if left out. It encrypts nothing'
 complete -c textpeer -n '__textpeer_does import; and not __fish_contains_opt explain' -l explain -d 'adds below a refusal which file it is about and what to do; always on where the standard error is a terminal'
 complete -c textpeer -n '__textpeer_does import; and not __fish_contains_opt -s h help' -s h -l help -d 'Print help'
+complete -c textpeer -n __fish_use_subcommand -a mirror -d 'Brings a text file and a journal in step: what an editor saved is merged into the journal, and then the file has the journal'\''s text'
+complete -c textpeer -n '__textpeer_does mirror; and test (__textpeer_place) -eq 1' -F
+complete -c textpeer -n '__textpeer_does mirror; and test (__textpeer_place) -eq 2' -F
+complete -c textpeer -n '__textpeer_does mirror; and not __fish_contains_opt take' -l take -x -d 'which text counts at the first use, where the two differ: text, and the journal'\''s stays in its history; or journal, and NOTE'\''s is kept as NOTE.before'
+complete -c textpeer -n '__textpeer_does mirror; and not __fish_contains_opt every' -l every -d 'goes on, and looks again each SECONDS, 1 to 86400; each second if none are given'
+complete -c textpeer -n '__textpeer_does mirror; and not __fish_contains_opt wait' -l wait -x -d 'how many seconds to wait for FILE'\''s lock where another program has it, up to 86400; not at all if 0 [default: 5]'
+complete -c textpeer -n '__textpeer_does mirror; and not __fish_contains_opt key' -l key -x -d 'the seed of the random numbers, in 64 hexadecimal digits; from /dev/urandom if left out. It encrypts nothing'
+complete -c textpeer -n '__textpeer_does mirror; and not __fish_contains_opt explain' -l explain -d 'adds below a refusal which file it is about and what to do; always on where the standard error is a terminal'
+complete -c textpeer -n '__textpeer_does mirror; and not __fish_contains_opt -s h help' -s h -l help -d 'Print help'
 complete -c textpeer -n __fish_use_subcommand -a text -d 'Prints the text, as it is now or at earlier heads'
 complete -c textpeer -n '__textpeer_does text; and test (__textpeer_place) -eq 1' -F
 complete -c textpeer -n '__textpeer_does text; and test (__textpeer_place) -ge 2' -k -a '(__textpeer_changes)'
@@ -93,6 +102,7 @@ complete -c textpeer -n '__textpeer_does diff; and test (__textpeer_place) -eq 1
 complete -c textpeer -n '__textpeer_does diff; and test (__textpeer_place) -ge 2' -k -a '(__textpeer_changes)'
 complete -c textpeer -n '__textpeer_does diff; and not __fish_contains_opt to' -l to -x -d 'a head of the later text, once for each; as it is now if left out'
 complete -c textpeer -n '__textpeer_does diff; and not __fish_contains_opt -s U unified' -s U -l unified -x -d 'prints N lines before and after those that differ too, for `patch` with names of the texts'
+complete -c textpeer -n '__textpeer_does diff; and not __fish_contains_opt words' -l words -d 'prints each line that differs once, with [-what went-] and {+what came+} in their places'
 complete -c textpeer -n '__textpeer_does diff; and not __fish_contains_opt explain' -l explain -d 'adds below a refusal which file it is about and what to do; always on where the standard error is a terminal'
 complete -c textpeer -n '__textpeer_does diff; and not __fish_contains_opt -s h help' -s h -l help -d 'Print help'
 complete -c textpeer -n __fish_use_subcommand -a status -d 'Prints what a journal has: document, changes, authors, characters, heads, bytes; and which process has it open'

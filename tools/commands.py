@@ -9,8 +9,8 @@ from tree import TOP
 
 # The values that a shell has something to offer for, a file or the hash of a change, and the other values.
 FILE, HASH, OTHER = "file", "hash", "other"
-KINDS = {"FILE": FILE, "OTHER": FILE, "OUT": FILE, "SAVED": FILE, "LOG": FILE, "SCRIPT": FILE, "TEXT": FILE, "HASH": HASH, "ADDR": OTHER,
-         "AT": OTHER, "PAGE": OTHER}
+KINDS = {"FILE": FILE, "OTHER": FILE, "OUT": FILE, "SAVED": FILE, "LOG": FILE, "SCRIPT": FILE, "TEXT": FILE, "NOTE": FILE,
+         "HASH": HASH, "ADDR": OTHER, "AT": OTHER, "PAGE": OTHER}
 # The options that ask for help or the version.
 ASKING = ("--help", "--version")
 SECTION = re.compile(r"^(Commands|Arguments|Options|Anywhere before --|Example):\n((?:  .*(?:\n|\Z))+)", re.M)
