@@ -3,6 +3,7 @@ use Rattle.std.proofs.Common.{◌≡◌, ◌⊎◌, ℕ, zero, suc, ◌<◌, Lis
 use Rattle.std.proofs.lemmas.Option.{slice_get_read}
 use Rattle.std.specs.List.{remove}
 use Rattle.tp_list.specs.Members.{In}
+use Rattle.tp_list.proofs.Members.{In-slice_get}
 use Rattle.tp_mirror.specs.declared.known.Digest.{Digest}
 use Rattle.tp_mirror.specs.declared.known.Known.{Known}
 use Rattle.tp_mirror.specs.declared.known.TextAt.{TextAt}
@@ -204,3 +205,9 @@ remove-left_empty-by v w name look e f t = remove-left_empty v w name t (e ∙ a
 
 pub taken-own : (v : MirrorView) (s : State) (source : Source) (digest : Digest) (k : Known) → IsTaken v s source digest k → IsTaken v s source k.text.digest k
 taken-own v s source digest k t = subst (λ (d : Digest). IsTaken v s source d k) (sym t.digest_is) t
+
+-- a file that was moved away may be removed whose text is the one that was read there last
+pub remove-known : (v : MirrorView) (s : State) (lacks : Option TextAt) (at : ℕ) (m : Moved) (t : TextAt) (digest : Digest) → IsKept v s lacks → slice_get s.moved at ≡ Some m → IsRead v (Away m.name) digest
+    → t.digest ≡ digest → t ≡ m.known.text → CanRemove v m.name t
+remove-known v s lacks at m t digest kept there read same own =
+    remove-text v m.name t digest read same (subst (IsMade v) (sym own) (kept.fits.moved m (In-slice_get s.moved at m there)))

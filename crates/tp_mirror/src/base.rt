@@ -1,9 +1,9 @@
 //! On which text a text that was read is made a change.
 
-ghost use Rattle.std.specs.Prelude.{◌≡◌, ◌⊎◌, ◌≤◌, ◌<◌, length, true, Some, None, IfOk, IfSome, OnOk};
+ghost use Rattle.std.specs.Prelude.{◌≡◌, ◌⊎◌, ◌↔◌, ◌≤◌, ◌<◌, length, true, Some, None, IfOk, IfSome, IsTrue, OnOk};
 ghost use Rattle.tp_list.specs.Members.{In};
 ghost use Rattle.tp_mirror.specs.declared.known.Known.{Known};
-ghost use Rattle.tp_mirror.specs.Basing.{IsBase, IsLastAt, IsNearestAt};
+ghost use Rattle.tp_mirror.specs.Basing.{Counts, IsBaseAt, IsLastAt, IsNearestAt};
 
 use crate::error::MirrorError;
 use crate::known::{Digest, Known, TextAt};
@@ -75,8 +75,18 @@ fn nearer(best: Option<Nearest>, next: Nearest, own: Option<u64>) -> Nearest
     }
 }
 
-/// The text that is nearest to the one that was read. Of several, one of the generation `own`, and then the newest. One
-/// measure of each text.
+// Whether a text of the generation counts: of a file that was moved away those don't that came later.
+fn counts(own: Option<u64>, generation: u64) -> bool
+    ensures { IsTrue result ↔ Counts own generation }
+{
+    match own {
+        None => true,
+        Some(own) => generation <= own,
+    }
+}
+
+/// The text that is nearest to the one that was read. Of several, one of the generation `own`, and then the newest.
+/// Where `own` is given, those of later generations don't count. One measure of each that does.
 pub(crate) fn find_nearest<W: Workspace>(
     workspace: &mut W,
     texts: &[Known],
@@ -84,11 +94,15 @@ pub(crate) fn find_nearest<W: Workspace>(
     text: Digest,
 ) -> Result<Option<Nearest>, MirrorError>
     ensures same { OnOk result (W.view workspace.new ≡ W.view workspace.old) }
-    ensures nearest { IfOk result (λ found. IfSome found (λ n. IsNearestAt W.is_far texts.now text n)) }
+    ensures nearest { IfOk result (λ found. IfSome found (λ n. IsNearestAt W.is_far own texts.now text n)) }
+    ensures none { IfOk result (λ found. found ≡ None → (k : Known) → In k texts.now → Counts own k.generation → ⊥) }
 {
     let mut best: Option<Nearest> = None;
     for at in 0..texts.len() {
         let known = &texts[at];
+        if !counts(own, known.generation) {
+            continue;
+        }
         let distance = workspace.distance(&known.text, text)?;
         let next = Nearest {
             at,
@@ -105,11 +119,12 @@ pub(crate) fn base_at<W: Workspace>(
     alloc: Global,
     _workspace: &W,
     texts: &[Known],
+    _own: Option<u64>,
     near: Nearest,
     _text: Digest,
 ) -> Result<Base, MirrorError>
-    requires { IsNearestAt W.is_far texts.now _text near }
-    ensures { IfOk result (λ base. IsBase W.is_far texts.now _text base.text) }
+    requires { IsNearestAt W.is_far _own texts.now _text near }
+    ensures { IfOk result (λ base. IsBaseAt W.is_far _own texts.now _text near.distance near.generation base.text) }
 {
     match last_of(texts, near.generation) {
         None => Err(MirrorError::NothingKnown),
@@ -124,4 +139,30 @@ pub(crate) fn base_at<W: Workspace>(
             Err(MirrorError::NothingKnown)
         }
     }
+}
+
+// Whether the text is the last one of its generation.
+fn is_last(texts: &[Known], known: &Known) -> bool {
+    match last_of(texts, known.generation) {
+        Some(at) if at < texts.len() => {
+            texts[at].text.heads.as_slice() == known.text.heads.as_slice()
+        }
+        _ => false,
+    }
+}
+
+/// The text itself. What is made on it belongs to its generation where it is the last one there, and else begins one. It
+/// takes memory for its heads.
+pub(crate) fn base_on(alloc: Global, texts: &[Known], known: &Known) -> Result<Base, MirrorError>
+    ensures { IfOk result (λ base. base.text ≡ known.now.text) }
+{
+    let generation = if is_last(texts, known) {
+        Some(known.generation)
+    } else {
+        None
+    };
+    Ok(Base {
+        generation,
+        text: known.text.copy(alloc)?,
+    })
 }

@@ -45,14 +45,13 @@ fn look_at<W: Workspace>(
 {
     let moved = &state.moved.as_slice()[at];
     let name = moved.name;
-    let own = moved.known.generation;
     let digest = moved.known.text.digest;
     let source = Source::Away(name);
     let look = workspace.read(source)?;
     match look {
         Look::Text(text) => {
             if !text.is(&digest) {
-                let taken = take_in(workspace, state, source, Some(own), text)?;
+                let taken = take_in(workspace, state, source, text)?;
                 rewatch(workspace, state, at, taken)?;
             }
             Ok(true)
@@ -132,12 +131,13 @@ pub fn forget<W: Workspace>(
 {
     let moved = &state.moved.as_slice()[at];
     let name = moved.name;
-    let own = moved.known.generation;
+    let known = moved.known.text.copy(state.texts.alloc())?;
     let source = Source::Away(name);
     let look = workspace.read(source)?;
     match look {
+        Look::Text(text) if text.is(&known.digest) => { remove(workspace, state, at, name, &known) }
         Look::Text(text) => {
-            let known = take_in(workspace, state, source, Some(own), text)?;
+            let known = take_in(workspace, state, source, text)?;
             remove(workspace, state, at, name, &known.text)?;
             Ok(())
         }

@@ -26,7 +26,7 @@ pub fn round<W: Workspace>(workspace: &mut W, state: &mut State) -> Result<Outco
     let look = workspace.read(Source::Note)?;
     match look {
         Look::Text(text) => {
-            let note = take_in(workspace, state, Source::Note, None, text)?;
+            let note = take_in(workspace, state, Source::Note, text)?;
             let outcome = put(workspace, state, note)?;
             Ok(outcome)
         }

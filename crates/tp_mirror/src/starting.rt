@@ -4,6 +4,7 @@ ghost use Rattle.std.specs.Prelude.{◌≡◌, true, false, None, Some, IfOk, On
 ghost use Rattle.tp_opid.specs.Same.{same_doc};
 ghost use Rattle.tp_mirror.specs.Mirroring.{IsKept, IsRecoverable};
 
+use crate::base::last_of;
 use crate::error::MirrorError;
 use crate::first_use::{Take, begin};
 use crate::state::State;
@@ -14,9 +15,11 @@ use tp_opid::{DocId, Hash};
 
 // The generation whose last text is at these heads, where there is one.
 fn generation_at(state: &State, heads: &[Hash]) -> Option<u64> {
+    let texts = state.texts.as_slice();
     let mut found = None;
-    for known in state.texts.as_slice() {
-        if known.text.heads.as_slice() == heads {
+    for at in 0..texts.len() {
+        let known = &texts[at];
+        if known.text.heads.as_slice() == heads && last_of(texts, known.generation) == Some(at) {
             found = Some(known.generation);
         }
     }

@@ -46,6 +46,15 @@ impl Author {
 #[derive(Clone, Copy, Debug, PartialEq, Eq, PartialOrd, Ord)]
 pub struct Name(pub [u8; 16]);
 
+impl Name {
+    /// Whether the two are one name.
+    pub fn is(&self, other: &Name) -> bool
+        ensures { IsTrue result ↔ (self.now ≡ other.now) }
+    {
+        self == other
+    }
+}
+
 /// A file that was NOTE and was moved away. An editor that has it open may still write to it.
 #[derive(Drop)]
 pub struct Moved {

@@ -6,6 +6,7 @@ ghost use Rattle.tp_mirror.specs.declared.known.Digest.{Digest};
 ghost use Rattle.tp_mirror.specs.declared.known.TextAt.{TextAt};
 ghost use Rattle.tp_mirror.specs.declared.state.Author.{Author};
 ghost use Rattle.tp_mirror.specs.declared.state.State.{State};
+ghost use Rattle.tp_mirror.specs.declared.workspace.Source.{Source};
 ghost use Rattle.tp_mirror.specs.Basing.{MayBase};
 ghost use Rattle.tp_mirror.specs.Mirroring.{MirrorView, CanMove, CanRemove, CanSave, HasAllMade, IsMade, IsPart, IsRead, IsRecoverable, IsRemoved, IsNotBegun, MayPut, WatchesName, with_new_text, with_heads, with_moved, with_answer, with_part, with_look, with_state, without_part};
 
@@ -95,8 +96,8 @@ pub trait Workspace {
     fn make(&mut self, base: &TextAt, text: Digest, author: &Author) -> Result<TextAt, MirrorError>
         requires sound { IsRecoverable (view self.old) }
         requires first { (view self.old).fresh ≡ None }
-        requires text { (source : _) × IsRead (view self.old) source text }
-        requires base { (s : State) → (view self.old).saved ≡ Some s → MayBase is_far s text base.now }
+        requires base { (source : Source) × IsRead (view self.old) source text
+            × ((s : State) → (view self.old).saved ≡ Some s → MayBase is_far s source text base.now) }
         requires author { (s : State) → (view self.old).saved ≡ Some s → s.author ≡ author.now }
         requires may { may_make author.now base.now }
         ensures { IfOk result (λ made. (made.digest ≡ text) × (view self.new ≡ with_new_text (view self.old) made)) };

@@ -25,18 +25,10 @@ use Rattle.tp_mirror.specs.declared.workspace.Look.{Look}
 use Rattle.tp_mirror.specs.declared.workspace.Look.TheVariants.{Absent, Busy, NotText, Empty, LeftEmpty, Text}
 use Rattle.tp_mirror.specs.declared.workspace.Source.{Source}
 use Rattle.tp_mirror.specs.Mirroring.{FileRead, HasAllMade, IsMade, IsPart, IsRead, IsRemoved, MirrorView, with_answer, with_heads, with_look, with_moved, with_new_text, with_part, with_state, without_part}
-use Rattle.tp_mirroring.specs.declared.quiet.Content.{Content}
-use Rattle.tp_mirroring.specs.declared.quiet.Content.TheVariants.{Absent, Torn, Bytes}
 use Rattle.tp_mirroring.specs.Beside.{source_path}
 use Rattle.tp_mirroring.specs.Folder.{IsAmongMade, IsFolder, IsLookOf, IsPartWritten, IsTextRead, IsWritten}
-use Rattle.tp_mirroring.specs.Seeing.{IsContentOf, first_seen, list_of, nothing_seen, text_of, texts_of}
+use Rattle.tp_mirroring.specs.Seeing.{first_seen, list_of, nothing_seen, text_of, texts_of}
 use Rattle.tp_mirroring.specs.Taking.{HasTakings, Taking, AreTakings}
-
--- what was read of a file is seen by whoever sees more
-pub content_seen : (here there : DiskView → Type 0) (path : List ℕ) (content : Content) → ((d : DiskView) → here d → there d) → IsContentOf here path content → IsContentOf there path content
-content_seen here there path Absent sees h = tt
-content_seen here there path Torn sees h = tt
-content_seen here there path (Bytes bytes age) sees h = sees _ h
 
 -- a text that is added leaves those that were made
 still_made : (fresh : Option TextAt) (made : List TextAt) (t : TextAt) → IsAmongMade fresh made → IsAmongMade fresh (made ++ t ∷ [])
@@ -58,11 +50,6 @@ other_look saw note source text s Busy never = tt
 other_look saw note source text s NotText never = tt
 other_look saw note source text s Empty never = tt
 other_look saw note source text s LeftEmpty never = tt
-
--- the text of a change, where there is one
-pub fresh_found : (fresh : Option TextAt) (found : Option Change) → fresh ≡ text_of found → IfSome found (λ c. fresh ≡ Some c.text)
-fresh_found fresh None is = tt
-fresh_found fresh (Some c) is = is
 
 -- the journal's text was read, and is the one with all that was made
 pub heads_seen : (w v u : MirrorView) (copy t : TextAt) → w ≡ with_heads v copy → v ≡ u → copy ≡ t → (w ≡ with_heads u t) × HasAllMade (λ x y. Unit {0}) w t

@@ -1,11 +1,12 @@
 //! Bringing a journal and NOTE in step.
 
-ghost use Rattle.std.specs.Prelude.{◌≡◌, None, OnErr, OnOk};
+ghost use Rattle.std.specs.Prelude.{◌≡◌, None, OnErr, OnOk, false};
 ghost use Rattle.std.specs.String.{string_bytes};
+ghost use Rattle.tp_commands.specs.Since.{GrowsAlone};
 ghost use Rattle.tp_disk.specs.DiskView.{ChangesFile};
 ghost use Rattle.tp_disk.specs.Opening.{CutsFile, MayCutFile};
 ghost use Rattle.tp_mirroring.specs.Seeing.{first_cut};
-ghost use Rattle.tp_mirroring.specs.Taking.{Mirrors};
+ghost use Rattle.tp_mirroring.specs.Taking.{HasTakings, Mirrors};
 
 use crate::paths::Paths;
 use crate::turning::{Turned, do_turn};
@@ -16,9 +17,10 @@ use std::thread;
 use std::time::{Clock, Duration};
 use tp_commands::{CommandError, reopen};
 use tp_disk::{Disk, Opened, draw};
-use tp_journal::DurableJournal;
+use tp_journal::{DurableJournal, Journal};
 use tp_mirror::{Name, Take};
 use tp_opid::Actor;
+use tp_peer::Peer;
 
 // How many milliseconds it waits before a file that isn't quiet is looked at again.
 const PAUSE: u64 = 250;
@@ -76,6 +78,25 @@ fn turn<D: Disk + Clock + AllocGlobal>(
     let mut journal = peer.stop();
     rt.leave(file, &mut journal)?;
     done
+}
+
+/// Has the rounds of a turn with a peer that is open and runs, as [`mirror`] has them with a journal, but waits for nothing: where a
+/// file isn't quiet it is refused as `NotQuiet`. All that the peer has more is at its list's end.
+pub fn turn_on<D: Disk + Clock + AllocGlobal, J: Journal>(
+    rt: &D,
+    paths: &Paths,
+    peer: Peer<J>,
+    take: Option<Take>,
+    random: &mut ChaCha20Rng,
+) -> (Peer<J>, Result<Vec<Name>, CommandError>)
+    requires { peer.stopped ≡ false }
+    ensures grows { GrowsAlone peer result.0 }
+    ensures taken { OnOk result.1
+        (HasTakings false (D.saw rt.now) (string_bytes paths.now.note) peer result.0) }
+{
+    let generator = draw_generator(random);
+    let Turned { peer, done } = do_turn::<D, J, Brand>(rt, paths, peer, take, generator);
+    (peer, done)
 }
 
 /// Brings the journal and NOTE in step: what an editor saved in NOTE becomes changes of the journal, on the text that the editor had,

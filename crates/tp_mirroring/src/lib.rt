@@ -17,6 +17,6 @@ mod texts;
 mod turning;
 mod workspace;
 
-pub use job::mirror;
+pub use job::{mirror, turn_on};
 pub use looking::look;
 pub use paths::{Paths, place_of};

@@ -1,5 +1,6 @@
 -- What a seat's token is after a step.
 use Rattle.tp_served.proofs.Common.{◌≡◌, ◌≢◌, ℕ, eqb, eq-eqb, ne_eqb, ◌+◌, arith, List, [], ◌∷◌, Option, Some, None, refl, sym, ap, ◌∙◌, subst, MatchBool, Step, rest, step, TableId, PeerState, Call, PeerStep, Reply, SeatKnowledge, CallTakesTurn, gave, missed_by, took, ViewState, idle_seat, holding_seat, idle, IsSeat, seat_of, StepsAsSeat, AcquiresPeer, Token, give_step, join_views, try_step, TryOutcome, Replied, EndsTurn, EndsVisit, IsOnlyOn, IsTurn, Tries, Visits}
+use Rattle.tp_served.specs.Seats.{IsKeptIn}
 use mathlib.Core.Option as maybe
 use Rattle.tp_peer.proofs.StepLaws.{step_keeps}
 
@@ -126,6 +127,12 @@ ends_visit t m h h' done views turn did given = record {
 -- misses before it show nothing else
 visits_missed : (t t' : SeatKnowledge) (k : ℕ) (done : PeerState → PeerState → Type 0) → Visits (missed_by k t) done t' → Visits t done t'
 visits_missed t t' k done s = record { number = s.number; taken = s.taken; visited = s.visited; kept = record { seen = s.kept.seen; link = s.kept.link }; mine = s.mine }
+
+-- what a turn shows in which the peer was out
+pub turn_visits : (t u : SeatKnowledge) (k : ℕ) (p p' : PeerState) (done : PeerState → PeerState → Type 0) → u ≡ took (missed_by k t) → IsKeptIn (missed_by k t) p → done p p' → Visits t done (gave p p' u)
+turn_visits t u k p p' done is kept did =
+    subst (λ (x : SeatKnowledge). Visits t done (gave p p' x)) (sym is)
+    (visits_missed t (gave p p' (took (missed_by k t))) k done (record { number = refl; taken = refl; visited = did; kept = record { seen = kept.seen; link = kept.link }; mine = refl }))
 
 -- what a visit shows whose turn ended after some misses
 pub visits_turn : (t old : SeatKnowledge) (k : ℕ) (done : PeerState → PeerState → Type 0) (views : List ViewState) → t ≡ old → EndsVisit (missed_by k t) done views → Visits old done (seat_of views)

@@ -4,4 +4,5 @@ pub mod Seats
 pub mod Rule
 pub mod Sitting
 pub mod Steps
+pub mod Absences
 pub mod Calls

@@ -5,6 +5,7 @@
 //! what it has seen begins what every later turn of it finds.
 #![tactic(auto)]
 
+mod absence;
 mod closing;
 mod error;
 mod meeting;
@@ -17,6 +18,7 @@ mod turn;
 mod visitor;
 mod waiting;
 
+pub use absence::Absence;
 pub use closing::Unclosed;
 pub use error::ServedError;
 pub use opening::{MAX_SEATS, Unserved};

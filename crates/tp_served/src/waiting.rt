@@ -28,8 +28,8 @@ use tp_peer::{Link, Outgoing, PeerError, Received};
 use tp_sync::Message;
 
 impl<J: Journal> Served<J> {
-    // Tries to take the peer until it has it.
-    fn wait<R: Wait>(&self, rt: &R, badge: Badge<View>) -> Turn<J>
+    /// Tries to take the peer until it has it.
+    pub(crate) fn wait<R: Wait>(&self, rt: &R, badge: Badge<View>) -> Turn<J>
         requires served { badge.table_id ≡ self.now.served }
         requires seat { (t : SeatKnowledge) × (badge.views ≡ idle_seat t ∷ []) }
         ensures served { result.token.table_id ≡ self.now.served }
