@@ -18,7 +18,7 @@ use Rattle.tp_command_line.specs.LineError.{IsPassedAs, RefusesValue}
 use Rattle.tp_command_line.proofs.Found.{some_is}
 use Rattle.tp_command_line.specs.declared.job.FileJob.TheVariants.{Show}
 use Rattle.tp_command_line.specs.declared.job.Job.{Job}
-use Rattle.tp_command_line.specs.declared.job.Job.TheVariants.{Files}
+use Rattle.tp_command_line.specs.declared.job.Job.TheVariants.{Files, Share}
 use Rattle.tp_command_line.specs.declared.error.LineError.{LineError}
 use Rattle.tp_command_line.specs.declared.error.LineError.TheVariants.{Request, Fault, Value}
 use Rattle.tp_command_line.specs.declared.error.ValueError.{ValueError}
@@ -82,6 +82,8 @@ other_name name is other = absurd (true≢false (sym ((bytes_eq-Decides name (co
 -- a job of a subcommand `show` shows the value of `LOG`
 show_of_name : (path : Text) (name : Text) (rows : List Row) (job : Job) → name ≡ codes "show" → first_of (codes "LOG") rows ≡ Some path → IsJobOf name rows job → IsShow path job
 show_of_name path name rows (Files (Show file)) is log of = let same : Some file.now ≡ Some path = sym of.1 ∙ log in (file, refl, cc)
+show_of_name path name rows (Share file note take addr every sessions patience key) is log of =
+    ⊎_elim (λ m. other_name _ (sym m.named ∙ is) refl) (λ s. other_name _ (sym s.named ∙ is) refl) of.3
 show_of_name path name rows job is log of = other_name _ (sym of.0 ∙ is) refl
 
 -- what is found of words that ask to show a path

@@ -108,6 +108,9 @@ whole_text_sound = single_sound String (placed 2 (required_rule (codes "TEXT")))
 note_sound : IsSound (placed 2 (required_rule (codes "NOTE")))
 note_sound = single_sound String (placed 2 (required_rule (codes "NOTE"))) refl refl refl
 
+mirror_sound : IsSound (placed 2 (option_rule (codes "mirror")))
+mirror_sound = single_sound String (placed 2 (option_rule (codes "mirror"))) refl refl refl
+
 take_sound : IsSound (placed 2 (option_rule (codes "take")))
 take_sound = single_sound String (placed 2 (option_rule (codes "take"))) refl refl refl
 
@@ -250,6 +253,7 @@ all_sound = assumption (
   del_sound,
   whole_text_sound,
   note_sound,
+  mirror_sound,
   take_sound,
   text_sound,
   text_file_sound,

@@ -1,19 +1,22 @@
 -- The commands of `textpeer`: the shape of each, as clap's definition for simple commands reads it, and the job that it asks for.
-use Rattle.std.specs.Prelude.{◌≡◌, ◌≢◌, ℕ, List, [], ◌∷◌, ◌++◌, Option, Some, None, true, false, codes, slice_get}
+use Rattle.std.specs.Prelude.{◌≡◌, ◌≢◌, ◌⊎◌, ℕ, List, [], ◌∷◌, ◌++◌, Option, Some, None, true, false, codes, option_map, slice_get, unwrap_or}
+use Rattle.tp_command_line.specs.declared.address.Address.{Address}
 use Rattle.std.specs.Borrow.{Bor}
 use Rattle.clap.specs.Simple.{new_shape as named_shape}
 use Rattle.clap.specs.Words.{App, Row, Rule, Shape, Text, app_of, first_of}
 use Rattle.clap.specs.declared.builder.command.Command.{Command}
 use Rattle.clap.specs.declared.builder.command.Command.TheViews.{out-Command}
 use Rattle.tp_command_line.specs.declared.job.FileJob.TheVariants.{New, Edit, Update, Import, Mirror, Text as ReadText, Heads, Log, Graph, Diff, Status, Cursor, Check, Merge, Save, Load, Recover, Show, Simulate}
-use Rattle.tp_command_line.specs.declared.job.Beside.TheVariants.{Here, Loaded, Made, NoJournal, Nothing, Page, Read, Rescued, Streams, Text as ReadBeside, There}
+use Rattle.tp_command_line.specs.declared.job.Beside.{Beside}
+use Rattle.tp_command_line.specs.declared.job.Beside.TheVariants.{Here, Loaded, Made, NoJournal, Nothing, Page, Read, Rescued, Shared, Shown, Streams, Text as ReadBeside, There}
+use Rattle.tp_command_line.specs.declared.job.Hosting.{Hosting}
 use Rattle.tp_command_line.specs.declared.job.Inserted.{Inserted}
 use Rattle.tp_command_line.specs.declared.job.Inserted.TheVariants.{Given, InFile}
 use Rattle.tp_command_line.specs.declared.job.Job.{Job}
 use Rattle.tp_command_line.specs.declared.job.Subject.{Subject}
-use Rattle.tp_command_line.specs.declared.job.Job.TheVariants.{Files, Follow, Keep, Serve, Session, Sync, Web}
+use Rattle.tp_command_line.specs.declared.job.Job.TheVariants.{Files, Follow, Keep, Serve, Session, Share, Sync, Web}
 use Rattle.tp_command_line.specs.Rules.{every_rule, file_rule, flag_rule, follow_rule, key_rule, list_rule, mandatory, message_rule, most_rule, numeric, option_rule, optional_rule, options_rule, page_rule, patience_rule, required_rule, server_rule, sessions_rule, several, time_rule, workers_rule, wait_rule, context_rule}
-use Rattle.tp_command_line.specs.Values.{HasAddress, HasFlag, HasHashes, HasHeads, HasHosting, HasKey, HasNumber, HasTake, HasTexts, MayHaveNumber}
+use Rattle.tp_command_line.specs.Values.{HasAddress, HasFlag, HasHashes, HasHeads, HasHosting, HasKey, HasNumber, HasTake, HasTexts, MayHaveAddress, MayHaveNumber}
 
 -- ---- shapes
 
@@ -50,10 +53,10 @@ update_shape = with_rules (codes "update") ((whole_text_shape (codes "update")).
 abbrev pub import_shape : Shape
 import_shape = whole_text_shape (codes "import")
 
--- `mirror FILE NOTE [--take SIDE] [--every [SECONDS]] [--wait SECONDS] [--key HEX]`
+-- `mirror FILE NOTE [--take SIDE] [--every [SECONDS]] [--follow ADDR] [--wait SECONDS] [--key HEX]`
 abbrev pub mirror_shape : Shape
 mirror_shape = with_rules (codes "mirror")
-    (file_rule ∷ required_rule (codes "NOTE") ∷ option_rule (codes "take") ∷ every_rule ∷ wait_rule ∷ key_rule ∷ [])
+    (file_rule ∷ required_rule (codes "NOTE") ∷ option_rule (codes "take") ∷ every_rule ∷ server_rule ∷ wait_rule ∷ key_rule ∷ [])
 
 -- `text FILE [--raw] [HASH ..]`
 abbrev pub text_shape : Shape
@@ -114,22 +117,25 @@ show_shape = with_rules (codes "show") (required_rule (codes "LOG") ∷ [])
 abbrev pub simulate_shape : Shape
 simulate_shape = with_rules (codes "simulate") (required_rule (codes "SCRIPT") ∷ [])
 
--- `serve FILE ADDR [--sessions N] [--workers N] [--patience SECONDS] [--verbose] [--wait SECONDS] [--key HEX]`
+-- `serve FILE ADDR [--sessions N] [--workers N] [--patience SECONDS] [--verbose] [--mirror NOTE] [--take SIDE]
+-- [--wait SECONDS] [--key HEX]`
 abbrev pub serve_shape : Shape
 serve_shape = with_rules (codes "serve") (file_rule ∷ required_rule (codes "ADDR") ∷ sessions_rule ∷ workers_rule ∷ patience_rule
-    ∷ flag_rule (codes "verbose") ∷ wait_rule ∷ key_rule ∷ [])
+    ∷ flag_rule (codes "verbose") ∷ option_rule (codes "mirror") ∷ option_rule (codes "take") ∷ wait_rule ∷ key_rule ∷ [])
 
--- `sync FILE ADDR [--follow [SECONDS]] [--sessions N] [--patience SECONDS] [--wait SECONDS] [--key HEX]`
+-- `sync FILE ADDR [--follow [SECONDS]] [--sessions N] [--patience SECONDS] [--mirror NOTE] [--take SIDE] [--wait SECONDS] [--key HEX]`
 abbrev pub sync_shape : Shape
-sync_shape = with_rules (codes "sync") (file_rule ∷ required_rule (codes "ADDR") ∷ follow_rule ∷ sessions_rule ∷ patience_rule ∷ wait_rule ∷ key_rule ∷ [])
+sync_shape = with_rules (codes "sync") (file_rule ∷ required_rule (codes "ADDR") ∷ follow_rule ∷ sessions_rule ∷ patience_rule
+    ∷ option_rule (codes "mirror") ∷ option_rule (codes "take") ∷ wait_rule ∷ key_rule ∷ [])
 
 -- `session FILE [--client] [--wait SECONDS] [--key HEX]`
 abbrev pub session_shape : Shape
 session_shape = with_rules (codes "session") (file_rule ∷ flag_rule (codes "client") ∷ wait_rule ∷ key_rule ∷ [])
 
--- `web FILE [PAGE] [--serve ADDR] [--follow ADDR] [--wait SECONDS] [--key HEX]`
+-- `web FILE [PAGE] [--serve ADDR] [--follow ADDR] [--mirror NOTE] [--take SIDE] [--wait SECONDS] [--key HEX]`
 abbrev pub web_shape : Shape
-web_shape = with_rules (codes "web") (file_rule ∷ page_rule ∷ option_rule (codes "serve") ∷ server_rule ∷ wait_rule ∷ key_rule ∷ [])
+web_shape = with_rules (codes "web") (file_rule ∷ page_rule ∷ option_rule (codes "serve") ∷ server_rule
+    ∷ option_rule (codes "mirror") ∷ option_rule (codes "take") ∷ wait_rule ∷ key_rule ∷ [])
 
 -- the command has this shape, and no subcommand and no argument that subcommands have too
 pub record IsLeaf (s : Shape) (c : Command) : Type 0 where
@@ -181,6 +187,32 @@ abbrev pub HasOutput : List Row → Option (Bor Text) → Type 0
 HasOutput rows (Some out) = HasText (codes "OUT") rows out × HasFlag (codes "texts") rows false
 HasOutput rows None = (first_of (codes "OUT") rows ≡ None) × HasFlag (codes "texts") rows true
 
+-- so often as an option says, or as often as is usual where it isn't given
+abbrev pub HasPause : Text → List Row → ℕ → ℕ → Type 0
+HasPause id rows usual every = (given : Option ℕ) × MayHaveNumber id rows given × (every ≡ unwrap_or given usual)
+
+-- the text file that is kept beside a journal, where one is given
+abbrev pub MayHaveNote : List Row → Option (Bor Text) → Type 0
+MayHaveNote rows note = option_map (λ (text : Bor Text). text.now) note ≡ first_of (codes "mirror") rows
+
+-- what `mirror --follow` says of a text file and a server
+pub record IsMirrorShared (name : Text) (rows : List Row) (note : Bor Text) (addr : Address) (every sessions patience : ℕ) : Type 0 where
+  pub named : name ≡ codes "mirror"
+  pub note_is : HasText (codes "NOTE") rows note
+  pub server : MayHaveAddress (codes "server") rows (Some addr)
+  pub pause : HasPause (codes "every") rows 1 every
+  pub unbounded : sessions ≡ 18446744073709551615
+  pub usual : patience ≡ 30
+
+-- and `sync --mirror`
+pub record IsSyncShared (name : Text) (rows : List Row) (note : Bor Text) (addr : Address) (every sessions patience : ℕ) : Type 0 where
+  pub named : name ≡ codes "sync"
+  pub note_is : HasText (codes "mirror") rows note
+  pub server : HasAddress rows addr
+  pub pause : HasPause (codes "follow") rows 5 every
+  pub counted : HasNumber (codes "sessions") rows sessions
+  pub patient : HasNumber (codes "patience") rows patience
+
 -- the job is that of the subcommand with this name, and its values are those of the arguments
 abbrev pub IsJobOf : Text → List Row → Job → Type 0
 IsJobOf name rows (Files (New file key)) = (name ≡ codes "new") × HasText (codes "FILE") rows file × HasKey rows key
@@ -196,7 +228,7 @@ IsJobOf name rows (Files (Import file source time message key)) = (name ≡ code
     × HasNumber (codes "time") rows time × HasText (codes "message") rows message × HasKey rows key
 IsJobOf name rows (Files (Mirror file note take key)) = (name ≡ codes "mirror")
     × HasText (codes "FILE") rows file × HasText (codes "NOTE") rows note × HasTake rows take × HasKey rows key
-    × MayHaveNumber (codes "every") rows None
+    × MayHaveNumber (codes "every") rows None × MayHaveAddress (codes "server") rows None
 IsJobOf name rows (Files (ReadText file is_raw heads)) = (name ≡ codes "text")
     × HasText (codes "FILE") rows file × HasFlag (codes "raw") rows is_raw × HasHeads rows heads.items
 IsJobOf name rows (Files (Heads file)) = (name ≡ codes "heads") × HasText (codes "FILE") rows file
@@ -218,20 +250,24 @@ IsJobOf name rows (Files (Recover file out others)) = (name ≡ codes "recover")
     × HasTexts (codes "with") rows others.items
 IsJobOf name rows (Files (Show log)) = (name ≡ codes "show") × HasText (codes "LOG") rows log
 IsJobOf name rows (Files (Simulate script)) = (name ≡ codes "simulate") × HasText (codes "SCRIPT") rows script
-IsJobOf name rows (Serve file addr sessions workers patience is_verbose key) = (name ≡ codes "serve") × HasText (codes "FILE") rows file
+IsJobOf name rows (Serve file addr sessions workers patience is_verbose note take key) = (name ≡ codes "serve") × HasText (codes "FILE") rows file
     × HasAddress rows addr × HasNumber (codes "sessions") rows sessions
     × HasNumber (codes "workers") rows workers × HasNumber (codes "patience") rows patience
-    × HasFlag (codes "verbose") rows is_verbose × HasKey rows key
+    × HasFlag (codes "verbose") rows is_verbose × MayHaveNote rows note × HasTake rows take × HasKey rows key
 IsJobOf name rows (Session file is_client key) = (name ≡ codes "session") × HasText (codes "FILE") rows file
     × HasFlag (codes "client") rows is_client × HasKey rows key
 IsJobOf name rows (Sync file addr patience key) = (name ≡ codes "sync") × HasText (codes "FILE") rows file × HasAddress rows addr
     × HasNumber (codes "patience") rows patience × MayHaveNumber (codes "follow") rows None × HasKey rows key
+    × (first_of (codes "mirror") rows ≡ None)
 IsJobOf name rows (Follow file addr every sessions patience key) = (name ≡ codes "sync") × HasText (codes "FILE") rows file
     × HasAddress rows addr × MayHaveNumber (codes "follow") rows (Some every) × HasNumber (codes "sessions") rows sessions
-    × HasNumber (codes "patience") rows patience × HasKey rows key
+    × HasNumber (codes "patience") rows patience × HasKey rows key × (first_of (codes "mirror") rows ≡ None)
 IsJobOf name rows (Keep file note take every key) = (name ≡ codes "mirror") × HasText (codes "FILE") rows file × HasText (codes "NOTE") rows note
-    × HasTake rows take × HasKey rows key × MayHaveNumber (codes "every") rows (Some every)
-IsJobOf name rows (Web file hosting key) = (name ≡ codes "web") × HasText (codes "FILE") rows file × HasHosting rows hosting × HasKey rows key
+    × HasTake rows take × HasKey rows key × MayHaveNumber (codes "every") rows (Some every) × MayHaveAddress (codes "server") rows None
+IsJobOf name rows (Share file note take addr every sessions patience key) = HasText (codes "FILE") rows file × HasTake rows take × HasKey rows key
+    × (IsMirrorShared name rows note addr every sessions patience ⊎ IsSyncShared name rows note addr every sessions patience)
+IsJobOf name rows (Web file hosting note take key) = (name ≡ codes "web") × HasText (codes "FILE") rows file × HasHosting rows hosting
+    × MayHaveNote rows note × HasTake rows take × HasKey rows key
 
 -- the job is that of the subcommand that was found
 abbrev pub IsFoundAs : Option (Text × List Row) → Job → Type 0
@@ -252,6 +288,15 @@ pub record AskToShow (path : Text) (words : List Text) : Type 0 where
   pub no_flag : slice_get path 0 ≢ Some 45
 
 -- ---- what a job is about
+
+-- what is beside a journal that is served, with the text file that is kept in step with it, or shown on a page
+abbrev pub served_beside : Option (Bor Text) → Address → Beside
+served_beside None addr = Here addr
+served_beside (Some note) addr = Shared note addr
+
+abbrev pub shown_beside : Option (Bor Text) → Hosting → Beside
+shown_beside None hosting = Page hosting
+shown_beside (Some note) hosting = Shown note hosting
 
 -- the file that is judged first, and the one that is read or made beside it, or where its server or its page is
 abbrev pub subject_of : Job → Subject
@@ -275,9 +320,10 @@ subject_of (Files (Cursor file at heads)) = record { file = file; beside = Nothi
 subject_of (Files (Check file)) = record { file = file; beside = Nothing }
 subject_of (Files (Show log)) = record { file = log; beside = NoJournal }
 subject_of (Files (Simulate script)) = record { file = script; beside = NoJournal }
-subject_of (Serve file addr sessions workers patience is_verbose key) = record { file = file; beside = Here addr }
+subject_of (Serve file addr sessions workers patience is_verbose note take key) = record { file = file; beside = served_beside note addr }
 subject_of (Session file is_client key) = record { file = file; beside = Streams }
 subject_of (Sync file addr patience key) = record { file = file; beside = There addr }
 subject_of (Follow file addr every sessions patience key) = record { file = file; beside = There addr }
 subject_of (Keep file note take every key) = record { file = file; beside = ReadBeside note }
-subject_of (Web file hosting key) = record { file = file; beside = Page hosting }
+subject_of (Share file note take addr every sessions patience key) = record { file = file; beside = Shared note addr }
+subject_of (Web file hosting note take key) = record { file = file; beside = shown_beside note hosting }

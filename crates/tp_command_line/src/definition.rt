@@ -569,6 +569,7 @@ fn mirror_command<'a>(alloc: Global) -> Result<Command<'a>, AllocError>
     )?
     .arg(take(alloc))?
     .arg(every(alloc))?
+    .arg(server(alloc))?
     .arg(wait(alloc))?
     .arg(key(alloc))
 }
@@ -753,6 +754,19 @@ fn load_command<'a>(alloc: Global) -> Result<Command<'a>, AllocError>
     .arg(wait(alloc))
 }
 
+// Which text file is kept beside a journal that is served.
+fn note_beside<'a>(alloc: Global) -> Arg<'a>
+    ensures rule { rule_of result ≡ option_rule (codes "mirror") }
+    ensures local { result.global ≡ false }
+{
+    option(
+        alloc,
+        "mirror",
+        "NOTE",
+        "keeps this text file and FILE in step meanwhile, as mirror does",
+    )
+}
+
 fn serve_command<'a>(alloc: Global) -> Result<Command<'a>, AllocError>
     ensures { IfOk result (IsLeaf serve_shape) }
 {
@@ -775,6 +789,8 @@ fn serve_command<'a>(alloc: Global) -> Result<Command<'a>, AllocError>
         "verbose",
         "prints a line on the standard error for each session as it ends",
     ))?
+    .arg(note_beside(alloc))?
+    .arg(take(alloc))?
     .arg(wait(alloc))?
     .arg(key(alloc))
 }
@@ -796,6 +812,13 @@ fn sync_command<'a>(alloc: Global) -> Result<Command<'a>, AllocError>
         "with --follow: how many sessions are held; then it ends. If left out it goes on until it is ended",
     ))?
     .arg(patience(alloc))?
+    .arg(option(
+        alloc,
+        "mirror",
+        "NOTE",
+        "goes on as with --follow, and brings this text file and FILE in step before each session, as mirror does",
+    ))?
+    .arg(take(alloc))?
     .arg(wait(alloc))?
     .arg(key(alloc))
 }
@@ -832,7 +855,7 @@ fn page<'a>(alloc: Global) -> Arg<'a>
         .default_value("127.0.0.1:7117")
 }
 
-// Which server a page's program follows.
+// Which server is followed.
 fn server<'a>(alloc: Global) -> Arg<'a>
     ensures rule { rule_of result ≡ server_rule }
     ensures local { result.global ≡ false }
@@ -863,6 +886,8 @@ fn web_command<'a>(alloc: Global) -> Result<Command<'a>, AllocError>
         "serves the journal beside the page too, at this address, as IP:PORT or HOST:PORT, and prints the port",
     ))?
     .arg(server(alloc))?
+    .arg(note_beside(alloc))?
+    .arg(take(alloc))?
     .arg(wait(alloc))?
     .arg(key(alloc))
 }

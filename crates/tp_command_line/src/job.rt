@@ -3,15 +3,15 @@
 ghost use Rattle.std.specs.Prelude.{◌≡◌, IfErr, IfOk, codes};
 ghost use Rattle.clap.specs.Words.{found_of, rows_of};
 ghost use Rattle.tp_command_line.specs.declared.job.Job.TheVariants.{Files};
-ghost use Rattle.tp_command_line.specs.Commands.{IsJobOf, subject_of};
+ghost use Rattle.tp_command_line.specs.Commands.{IsJobOf, served_beside, shown_beside, subject_of};
 ghost use Rattle.tp_command_line.specs.LineError.{RefusesValue};
 ghost use Rattle.tp_command_line.specs.Uses.{IsUse};
 
 use crate::address::Address;
 use crate::error::ValueError;
 use crate::values::{
-    address_if_given, address_of, flag_of, hashes_of, inserted_of, key_of, number_in, number_of,
-    output_of, page_of, take_of, text_of, texts_given,
+    address_if_given, address_of, flag_of, given_text, hashes_of, inserted_of, key_of, number_in,
+    number_of, output_of, page_of, take_of, text_of, texts_given,
 };
 use clap::ArgMatches;
 use std::alloc::Global;
@@ -218,6 +218,10 @@ pub enum Job<'a> {
         patience: u64,
         /// Whether a line is printed of each session as it ends.
         is_verbose: bool,
+        /// The path of the text file that is kept in step with the journal meanwhile, if one is.
+        note: Option<&'a str>,
+        /// Which text counts at the first use, where the two have different ones; if that is said.
+        take: Option<Take>,
         /// The key.
         key: Option<[u8; 32]>,
     },
@@ -269,12 +273,35 @@ pub enum Job<'a> {
         /// The key.
         key: Option<[u8; 32]>,
     },
+    /// Keeps a journal and a text file that any editor writes in step, and exchanges changes with a server after each turn.
+    Share {
+        /// The path of the journal.
+        file: &'a str,
+        /// The path of the text file.
+        note: &'a str,
+        /// Which text counts at the first use, where the two have different ones; if that is said.
+        take: Option<Take>,
+        /// The address of the server.
+        addr: Address<'a>,
+        /// How many seconds pass between a turn and the next: 1 to 86,400.
+        every: u64,
+        /// How many sessions are held; 2^64 - 1, which is for ever, where none is given.
+        sessions: u64,
+        /// How many seconds the server may say nothing; 0, which is for ever, to 86,400, and 30 where none is given.
+        patience: u64,
+        /// The key.
+        key: Option<[u8; 32]>,
+    },
     /// Shows a journal as a page of this machine.
     Web {
         /// The path of the journal.
         file: &'a str,
         /// Where, and what goes on beside it.
         hosting: Hosting<'a>,
+        /// The path of the text file that is kept in step with the journal meanwhile, if one is.
+        note: Option<&'a str>,
+        /// Which text counts at the first use, where the two have different ones; if that is said.
+        take: Option<Take>,
         /// The key.
         key: Option<[u8; 32]>,
     },
@@ -315,8 +342,12 @@ pub enum Beside<'a> {
     Here(Address<'a>),
     /// It is a server, at the address.
     There(Address<'a>),
+    /// It is a text that is read, and a server, at the address.
+    Shared(&'a str, Address<'a>),
     /// It is a page, at its address.
     Page(Hosting<'a>),
+    /// It is a text that is read, and a page, at its address.
+    Shown(&'a str, Hosting<'a>),
 }
 
 /// What a job is about.
@@ -328,6 +359,26 @@ pub struct Subject<'a> {
     pub beside: Beside<'a>,
 }
 
+// What is beside a journal that is served at the address.
+fn beside_server<'a>(note: &Option<&'a str>, addr: &Address<'a>) -> Beside<'a>
+    ensures { result ≡ served_beside note.now addr.now }
+{
+    match note {
+        Some(note) => Beside::Shared(note, *addr),
+        None => Beside::Here(*addr),
+    }
+}
+
+// What is beside a journal that is shown on the page.
+fn beside_page<'a>(note: &Option<&'a str>, hosting: &Hosting<'a>) -> Beside<'a>
+    ensures { result ≡ shown_beside note.now hosting.now }
+{
+    match note {
+        Some(note) => Beside::Shown(note, *hosting),
+        None => Beside::Page(*hosting),
+    }
+}
+
 impl<'a> Job<'a> {
     /// What the job is about.
     pub fn subject(&self) -> Subject<'a>
@@ -335,12 +386,28 @@ impl<'a> Job<'a> {
     {
         let (file, beside) = match self {
             Job::Files(job) => return subject_of_files(job),
-            Job::Serve { file, addr, .. } => (file, Beside::Here(*addr)),
+            Job::Serve {
+                file,
+                addr,
+                note,
+                ..
+            } => (file, beside_server(note, addr)),
             Job::Session { file, .. } => (file, Beside::Streams),
             Job::Sync { file, addr, .. } => (file, Beside::There(*addr)),
             Job::Follow { file, addr, .. } => (file, Beside::There(*addr)),
             Job::Keep { file, note, .. } => (file, Beside::Text(note)),
-            Job::Web { file, hosting, .. } => (file, Beside::Page(*hosting)),
+            Job::Share {
+                file,
+                note,
+                addr,
+                ..
+            } => (file, Beside::Shared(note, *addr)),
+            Job::Web {
+                file,
+                hosting,
+                note,
+                ..
+            } => (file, beside_page(note, hosting)),
         };
         Subject { file, beside }
     }
@@ -432,7 +499,7 @@ fn import_of<'a>(found: &ArgMatches<'a>) -> Result<Job<'a>, ValueError>
     }))
 }
 
-// What `mirror` asks for, once or for good.
+// What `mirror` asks for, once or for good, with a server or without one.
 fn mirror_of<'a>(found: &ArgMatches<'a>) -> Result<Job<'a>, ValueError>
     requires { IsUse (codes "mirror") (rows_of (found_of found.now)) }
     ensures ok { IfOk result (IsJobOf (codes "mirror") (rows_of (found_of found.now))) }
@@ -442,15 +509,26 @@ fn mirror_of<'a>(found: &ArgMatches<'a>) -> Result<Job<'a>, ValueError>
     let note = text_of(found, "mirror", "NOTE");
     let take = take_of(found)?;
     let key = key_of(found)?;
-    match number_in(found, "mirror", "every") {
-        Some(every) => Ok(Job::Keep {
+    let server = address_if_given(found, "server")?;
+    match (server, number_in(found, "mirror", "every")) {
+        (Some(addr), every) => Ok(Job::Share {
+            file,
+            note,
+            take,
+            addr,
+            every: every.unwrap_or(1),
+            sessions: u64::MAX,
+            patience: 30,
+            key,
+        }),
+        (None, Some(every)) => Ok(Job::Keep {
             file,
             note,
             take,
             every,
             key,
         }),
-        None => Ok(Job::Files(FileJob::Mirror {
+        (None, None) => Ok(Job::Files(FileJob::Mirror {
             file,
             note,
             take,
@@ -494,6 +572,7 @@ fn serve_of<'a>(found: &ArgMatches<'a>) -> Result<Job<'a>, ValueError>
     ensures err { IfErr result (RefusesValue (rows_of (found_of found.now))) }
 {
     let key = key_of(found)?;
+    let take = take_of(found)?;
     Ok(Job::Serve {
         file: text_of(found, "serve", "FILE"),
         addr: address_of(found, "serve")?,
@@ -501,6 +580,8 @@ fn serve_of<'a>(found: &ArgMatches<'a>) -> Result<Job<'a>, ValueError>
         workers: number_of(found, "serve", "workers"),
         patience: number_of(found, "serve", "patience"),
         is_verbose: flag_of(found, "serve", "verbose"),
+        note: given_text(found, "mirror"),
+        take,
         key,
     })
 }
@@ -518,7 +599,7 @@ fn session_of<'a>(found: &ArgMatches<'a>) -> Result<Job<'a>, ValueError>
     })
 }
 
-// The exchange that `sync` asks for, once or again and again.
+// The exchange that `sync` asks for, once or again and again, and beside a text file or without one.
 fn sync_of<'a>(found: &ArgMatches<'a>) -> Result<Job<'a>, ValueError>
     requires { IsUse (codes "sync") (rows_of (found_of found.now)) }
     ensures ok { IfOk result (IsJobOf (codes "sync") (rows_of (found_of found.now))) }
@@ -528,16 +609,31 @@ fn sync_of<'a>(found: &ArgMatches<'a>) -> Result<Job<'a>, ValueError>
     let addr = address_of(found, "sync")?;
     let file = text_of(found, "sync", "FILE");
     let patience = number_of(found, "sync", "patience");
-    match number_in(found, "sync", "follow") {
-        Some(every) => Ok(Job::Follow {
+    let sessions = number_of(found, "sync", "sessions");
+    let take = take_of(found)?;
+    match (
+        given_text(found, "mirror"),
+        number_in(found, "sync", "follow"),
+    ) {
+        (Some(note), every) => Ok(Job::Share {
             file,
+            note,
+            take,
             addr,
-            every,
-            sessions: number_of(found, "sync", "sessions"),
+            every: every.unwrap_or(5),
+            sessions,
             patience,
             key,
         }),
-        None => Ok(Job::Sync {
+        (None, Some(every)) => Ok(Job::Follow {
+            file,
+            addr,
+            every,
+            sessions,
+            patience,
+            key,
+        }),
+        (None, None) => Ok(Job::Sync {
             file,
             addr,
             patience,
@@ -553,6 +649,7 @@ fn web_of<'a>(found: &ArgMatches<'a>) -> Result<Job<'a>, ValueError>
     ensures err { IfErr result (RefusesValue (rows_of (found_of found.now))) }
 {
     let key = key_of(found)?;
+    let take = take_of(found)?;
     Ok(Job::Web {
         file: text_of(found, "web", "FILE"),
         hosting: Hosting {
@@ -560,6 +657,8 @@ fn web_of<'a>(found: &ArgMatches<'a>) -> Result<Job<'a>, ValueError>
             serve: address_if_given(found, "serve")?,
             follow: address_if_given(found, "server")?,
         },
+        note: given_text(found, "mirror"),
+        take,
         key,
     })
 }

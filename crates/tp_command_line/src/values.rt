@@ -56,8 +56,8 @@ pub(crate) fn flag_of(found: &ArgMatches<'_>, name: &str, id: &str) -> bool
     found.get_flag(id)
 }
 
-// The value of an argument, where it is given.
-fn given_text<'a>(found: &ArgMatches<'a>, id: &str) -> Option<&'a str>
+/// The value of an argument, where it is given.
+pub(crate) fn given_text<'a>(found: &ArgMatches<'a>, id: &str) -> Option<&'a str>
     ensures { option_map (λ text. text.now) result
         ≡ first_of id.now (rows_of (found_of found.now)) }
 {

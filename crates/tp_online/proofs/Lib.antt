@@ -5,4 +5,5 @@ pub mod FollowLaws
 pub mod MirrorLaws
 pub mod PageLines
 pub mod WatchLaws
+pub mod BesideLaws
 pub mod PartLaws

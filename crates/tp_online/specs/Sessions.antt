@@ -23,8 +23,8 @@ pub record EndsRunning (served : ServedState) (seats : List SeatState) (p : Peer
   pub closes : Closes served.opened served.count (states_of seats) p
   pub runs : p.stopped ≡ false
 
--- The seats went on: all but the last as said, and the last one watched the peer.
-pub record GoWatched (went : List SeatState → List SeatState → Type 0) (seats seats' : List SeatState) : Type 0 where
+-- The seats went on: all but the last as said, and the last one watched the peer, beside a text file if one is kept.
+pub record GoWatched (saw : DiskView → Type 0) (note : Option (List ℕ)) (went : List SeatState → List SeatState → Type 0) (seats seats' : List SeatState) : Type 0 where
   pub first : List SeatState
   pub last : SeatState
   pub are : seats ≡ first ++ last ∷ []
@@ -32,24 +32,24 @@ pub record GoWatched (went : List SeatState → List SeatState → Type 0) (seat
   pub watch : SeatState
   pub are_back : seats' ≡ back ++ watch ∷ []
   pub led : went first back
-  pub watches : Watches last watch
+  pub watches : Watches saw note last watch
 
 -- The peer p was opened, and served on a seat for each of as many sessions at once as said, and one that watched it, on 64 at most;
 -- with these, as sessions about its document led them from the opening on, each as the server, the closing gives back the peer p'.
 -- Its journal didn't stop it.
-pub record WasServed (p : PeerState) (count : ℕ) (p' : PeerState) : Type 0 where
+pub record WasServed (saw : DiskView → Type 0) (note : Option (List ℕ)) (p : PeerState) (count : ℕ) (p' : PeerState) : Type 0 where
   pub served : ServedState
   pub opened : served.opened ≡ p
   pub number : served.count ≡ min (count + 1) 64
   pub back : List SeatState
-  pub sat : GoWatched (AllSit served.opened.id) (opened_seats served) back
+  pub sat : GoWatched saw note (AllSit served.opened.id) (opened_seats served) back
   pub ends : EndsRunning served back p'
 
 -- The peer that was opened on the bytes of a journal, under the actor that is drawn under the key, was served.
-pub record ServesJournal (key : Option (List ℕ)) (bytes : List ℕ) (count : ℕ) (p' : PeerState) : Type 0 where
+pub record ServesJournal (saw : DiskView → Type 0) (note : Option (List ℕ)) (key : Option (List ℕ)) (bytes : List ℕ) (count : ℕ) (p' : PeerState) : Type 0 where
   pub peer : PeerState
   pub opens : OpensUnder key bytes peer
-  pub served : WasServed peer count p'
+  pub served : WasServed saw note peer count p'
 
 -- One session about the opened document led the peer that was opened on the bytes of the file, under the actor that is drawn
 -- under the key, to p', as the side; n changes entered by it, up to 2^64 - 1.

@@ -1,6 +1,7 @@
 -- What a page came to, on the seats of a served peer.
 use Rattle.std.specs.Prelude.{◌≡◌, ◌⊎◌, ℕ, List, [], ◌∷◌, is_some, Option, Result, IsTrue}
 use Rattle.tp_command_line.specs.declared.job.Hosting.{Hosting}
+use Rattle.tp_disk.specs.DiskView.{DiskView}
 use Rattle.tp_disk.specs.Opening.{OpensUnder}
 use Rattle.tp_list.specs.Traces.{Trace}
 use Rattle.tp_net.specs.Sessions.{HoldsSession, Sits}
@@ -34,15 +35,15 @@ AllTakePart hosting id (s ∷ seats) (s' ∷ seats') = TakesPart hosting id s s'
 
 -- The peer p was opened, and shown on a page; with its seats, as they went on from the opening, all but the one that watched it, the
 -- closing gives back the peer p'. Its journal didn't stop it.
-pub record WasShown (hosting : Hosting) (p p' : PeerState) : Type 0 where
+pub record WasShown (saw : DiskView → Type 0) (note : Option (List ℕ)) (hosting : Hosting) (p p' : PeerState) : Type 0 where
   pub served : ServedState
   pub opened : served.opened ≡ p
   pub back : List SeatState
-  pub parts : GoWatched (AllTakePart hosting served.opened.id) (opened_seats served) back
+  pub parts : GoWatched saw note (AllTakePart hosting served.opened.id) (opened_seats served) back
   pub ends : EndsRunning served back p'
 
 -- The peer that was opened on the bytes of a journal, under the actor that is drawn under the key, was shown on a page.
-pub record ShowsJournal (hosting : Hosting) (key : Option (List ℕ)) (bytes : List ℕ) (p' : PeerState) : Type 0 where
+pub record ShowsJournal (saw : DiskView → Type 0) (note : Option (List ℕ)) (hosting : Hosting) (key : Option (List ℕ)) (bytes : List ℕ) (p' : PeerState) : Type 0 where
   pub peer : PeerState
   pub opens : OpensUnder key bytes peer
-  pub shown : WasShown hosting peer p'
+  pub shown : WasShown saw note hosting peer p'

@@ -201,9 +201,9 @@ fn meet_and_report<'a, R: Disk + Net + AllocGlobal, E: Write>(
     }
 }
 
-// Holds one session as [`meet_and_report`] does, and prints how many changes entered, where any did. Answers how many
-// sessions were held.
-fn follow_once<'a, R: Disk + Net + AllocGlobal, W: Write, E: Write>(
+/// Holds one session as [`meet_and_report`] does, and prints how many changes entered, where any did. Answers how many
+/// sessions were held.
+pub(crate) fn follow_once<'a, R: Disk + Net + AllocGlobal, W: Write, E: Write>(
     rt: &'a R,
     file: &'a str,
     how: &Following,
@@ -238,8 +238,8 @@ fn follow_once<'a, R: Disk + Net + AllocGlobal, W: Write, E: Write>(
     }
 }
 
-// Waits, but before the first turn.
-fn pause<R: Clock>(rt: &R, turn: u64, every: Duration) {
+/// Waits, but before the first turn.
+pub(crate) fn pause<R: Clock>(rt: &R, turn: u64, every: Duration) {
     if turn > 0 {
         thread::sleep(rt, every);
     }

@@ -7,6 +7,7 @@ mod following;
 mod hosting;
 mod idling;
 mod listening;
+mod mirrored;
 mod mirroring;
 mod paging;
 mod seating;
@@ -15,7 +16,8 @@ mod streaming;
 mod watching;
 
 pub use following::{Following, follow_file};
-pub use mirroring::{Keeping, keep_mirror};
+pub use mirrored::Noted;
+pub use mirroring::{Keeping, keep_mirror, share_mirror};
 pub use paging::web_file;
 pub use serving::{Met, Serving, serve_file, sync_file};
 pub use streaming::session_file;

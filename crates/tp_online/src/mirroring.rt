@@ -1,21 +1,27 @@
-//! The command `mirror --every`.
+//! The commands `mirror --every`, `mirror --follow` and `sync --follow --mirror`.
 
-ghost use Rattle.std.specs.Prelude.{◌≡◌, IfOk, None, OnErr, OnOk, Option, true};
+ghost use Rattle.std.specs.Prelude.{◌≡◌, ℕ, IfOk, IfSome, None, OnErr, OnOk, Option, true};
 ghost use Rattle.std.specs.String.{string_bytes};
 ghost use Rattle.tp_commands.specs.declared.error.CommandError.{CommandError as Refusal};
 ghost use Rattle.tp_disk.specs.Opening.{MayCutFile};
-ghost use Rattle.tp_online.specs.Mirroring.{TellsPassing, TellsSome, is_waited_out};
+ghost use Rattle.tp_online.specs.Mirroring.{TellsPassing, TellsShared, TellsSome, is_waited_out};
+ghost use Rattle.tp_online.specs.Sessions.{IsFollowed, IsIdle};
+ghost use Rattle.tp_report.specs.Telling.{GrowsBy, GrowsPart};
 
+use crate::following::{Following, follow_once, pause};
+use crate::idling::Between;
 use rand_chacha::ChaCha20Rng;
 use std::alloc::Global;
 use std::io::Write;
+use std::net::Net;
 use std::thread;
 use std::time::{Clock, Duration};
 use tp_commands::CommandError;
 use tp_disk::{Disk, Stamp, generator};
 use tp_mirror::{Name, Take};
 use tp_mirroring::{Paths, look, mirror, place_of};
-use tp_report::{JobError, exit_status, report};
+use tp_report::{JobError, exit_status, report, tell_followed};
+use tp_session::NetError;
 
 // So often, in seconds, a file that was moved away is looked at again though nothing changed: once nobody wrote to it for ten minutes
 // it is removed.
@@ -34,21 +40,36 @@ pub struct Keeping<'a> {
     pub wait: u64,
 }
 
-// How far it has come.
+/// What the turns so far came to.
 #[derive(Drop)]
-struct Progress {
-    // Whether all was in step once.
-    has_begun: bool,
-    // Whether all was in step at the last turn.
-    is_in_step: bool,
-    // Why it wasn't, where that was said.
-    told: Option<CommandError>,
-    // What was seen of the files before the last turn.
-    seen: Vec<Option<Stamp>>,
-    // The names of the files that were moved away.
-    left: Vec<Name>,
-    // For how many seconds nothing has changed.
-    rest: u64,
+pub(crate) struct Turns {
+    /// Whether all was in step once.
+    pub(crate) has_begun: bool,
+    /// Whether all was in step at the last turn.
+    pub(crate) is_in_step: bool,
+    /// Why it wasn't, where that was said.
+    pub(crate) told: Option<CommandError>,
+    /// What was seen of the files before the last turn.
+    pub(crate) seen: Vec<Option<Stamp>>,
+    /// The names of the files that were moved away.
+    pub(crate) left: Vec<Name>,
+    /// For how many seconds nothing has changed.
+    pub(crate) rest: u64,
+    /// How many turns in a row found a file that wasn't quiet.
+    pub(crate) busy: u64,
+}
+
+/// None was had yet.
+pub(crate) fn no_turns(alloc: Global) -> Turns {
+    Turns {
+        has_begun: false,
+        is_in_step: false,
+        told: None,
+        seen: Vec::new(alloc),
+        left: Vec::new(alloc),
+        rest: 0,
+        busy: 0,
+    }
 }
 
 // Whether a later turn may be done that was refused now.
@@ -64,23 +85,23 @@ fn waits_out(error: &CommandError) -> bool
     )
 }
 
-// Whether there is something to do: something changed, or the last turn was refused, or a file that was moved away may be left.
-fn is_due(progress: &Progress, seen: &[Option<Stamp>]) -> bool {
-    !progress.is_in_step
-        || progress.seen.as_slice() != seen
-        || (!progress.left.is_empty() && progress.rest >= AT_REST)
+/// Whether there is something to do: something changed, or the last turn was refused, or a file that was moved away may be left.
+pub(crate) fn is_due(turns: &Turns, seen: &[Option<Stamp>]) -> bool {
+    !turns.is_in_step
+        || turns.seen.as_slice() != seen
+        || (!turns.left.is_empty() && turns.rest >= AT_REST)
 }
 
 // Says why all isn't in step, where it didn't say so before.
-fn tell<E: Write>(alloc: Global, error: CommandError, progress: &mut Progress, err: &mut E)
+fn tell<E: Write>(alloc: Global, error: CommandError, turns: &mut Turns, err: &mut E)
     requires { is_waited_out error ≡ true }
     ensures { (told : Option Refusal) × TellsPassing told (E.contents err.old) (E.contents err.new) }
 {
-    if progress.told == Some(error) {
+    if turns.told == Some(error) {
         return;
     }
     exit_status(alloc, Err(JobError::Command(error)), err);
-    progress.told = Some(error);
+    turns.told = Some(error);
 }
 
 // Brings them in step, and says what was cut off the journal, and why it isn't so where that may pass.
@@ -89,7 +110,7 @@ fn take_turn<R: Disk + Clock + AllocGlobal, E: Write>(
     paths: &Paths,
     how: &Keeping,
     random: &mut ChaCha20Rng,
-    progress: &mut Progress,
+    turns: &mut Turns,
     err: &mut E,
     cut: &mut Option<u64>,
 ) -> Result<(), JobError>
@@ -102,17 +123,17 @@ fn take_turn<R: Disk + Clock + AllocGlobal, E: Write>(
         Ok(left) => {
             report(rt.alloc(), paths.file.as_str(), *cut, None, err);
             *cut = None;
-            progress.has_begun = true;
-            progress.is_in_step = true;
-            progress.told = None;
-            progress.left = left;
+            turns.has_begun = true;
+            turns.is_in_step = true;
+            turns.told = None;
+            turns.left = left;
             Ok(())
         }
-        Err(error) if progress.has_begun && waits_out(&error) => {
+        Err(error) if turns.has_begun && waits_out(&error) => {
             report(rt.alloc(), paths.file.as_str(), *cut, None, err);
             *cut = None;
-            progress.is_in_step = false;
-            tell(rt.alloc(), error, progress, err);
+            turns.is_in_step = false;
+            tell(rt.alloc(), error, turns, err);
             Ok(())
         }
         Err(error) => Err(JobError::Command(error)),
@@ -125,7 +146,7 @@ fn look_and_do<R: Disk + Clock + AllocGlobal, E: Write>(
     paths: &Paths,
     how: &Keeping,
     random: &mut ChaCha20Rng,
-    progress: &mut Progress,
+    turns: &mut Turns,
     err: &mut E,
     cut: &mut Option<u64>,
 ) -> Result<(), JobError>
@@ -134,18 +155,18 @@ fn look_and_do<R: Disk + Clock + AllocGlobal, E: Write>(
     ensures may_cut { OnErr result (MayCutFile (R.saw rt.now) (string_bytes paths.now.file) cut.new) }
     ensures told { TellsSome (R.saw rt.now) (string_bytes paths.now.file) (E.contents err.old) (E.contents err.new) }
 {
-    let seen = look(rt, paths, &progress.left)?;
-    if !is_due(progress, &seen) {
-        progress.rest = progress.rest.saturating_add(how.every.as_secs());
+    let seen = look(rt, paths, &turns.left)?;
+    if !is_due(turns, &seen) {
+        turns.rest = turns.rest.saturating_add(how.every.as_secs());
         return Ok(());
     }
-    progress.seen = seen;
-    progress.rest = 0;
-    take_turn(rt, paths, how, random, progress, err, cut)
+    turns.seen = seen;
+    turns.rest = 0;
+    take_turn(rt, paths, how, random, turns, err, cut)
 }
 
-// The paths, and the generator of actors and names.
-fn start<R: Disk + Clock + AllocGlobal>(
+/// The paths, and the generator of actors and names.
+pub(crate) fn start<R: Disk + Clock + AllocGlobal>(
     rt: &R,
     file: &str,
     note: &str,
@@ -173,19 +194,12 @@ fn go_on<R: Disk + Clock + AllocGlobal, E: Write>(
     ensures told { TellsSome (R.saw rt.now) (string_bytes paths.now.file) (E.contents err.old) (E.contents err.new) }
 {
     let mut random = random;
-    let mut progress = Progress {
-        has_begun: false,
-        is_in_step: false,
-        told: None,
-        seen: Vec::new(rt.alloc()),
-        left: Vec::new(rt.alloc()),
-        rest: 0,
-    };
+    let mut turns = no_turns(rt.alloc());
     for turn in 0..u64::MAX {
         if turn > 0 {
             thread::sleep(rt, how.every);
         }
-        look_and_do(rt, paths, how, &mut random, &mut progress, err, cut)?;
+        look_and_do(rt, paths, how, &mut random, &mut turns, err, cut)?;
     }
     Ok(())
 }
@@ -214,5 +228,101 @@ pub fn keep_mirror<R: Disk + Clock + AllocGlobal, E: Write>(
             Err(error) => error,
         },
         Err(error) => JobError::Command(error),
+    }
+}
+
+// Says on the standard error of the runtime whether a session was held, where that isn't as it was the time before.
+fn tell_change<R: Eprint + AllocGlobal>(
+    rt: &R,
+    server: &Following,
+    is_held: bool,
+    is_met: &mut bool,
+) {
+    if is_held == *is_met {
+        return;
+    }
+    *is_met = is_held;
+    let error = if is_held { None } else { Some(NetError::Io) };
+    tell_followed(rt, rt.alloc(), &server.addr, error);
+}
+
+// Has a turn and then a session, again and again.
+fn share_on<'a, R: Disk + Net + Clock + Eprint + AllocGlobal, W: Write, E: Write>(
+    rt: &'a R,
+    file: &'a str,
+    paths: &Paths,
+    how: &Keeping,
+    server: &Following,
+    sessions: u64,
+    random: ChaCha20Rng,
+    key: Option<[u8; 32]>,
+    out: &mut W,
+    err: &mut E,
+    cut: &mut Option<u64>,
+) -> Result<(), JobError>
+    requires cut { cut.old ≡ None }
+    requires file { string_bytes paths.now.file ≡ file.now }
+    ensures cuts { OnOk result (cut.new ≡ None) }
+    ensures may_cut { OnErr result (MayCutFile (R.saw rt.now) file.now cut.new) }
+    ensures told { TellsShared (R.saw rt.now) file.now (E.contents err.old) (E.contents err.new) }
+    ensures ok { OnOk result (GrowsBy (IsFollowed (R.saw rt.now) file.now key sessions)
+        (W.contents out.old) (W.contents out.new)) }
+    ensures err { OnErr result
+        (GrowsPart (λ printed. (n : ℕ) × IsFollowed (R.saw rt.now) file.now key n printed)
+        (W.contents out.old) (W.contents out.new)) }
+{
+    let mut random = random;
+    let mut turns = no_turns(rt.alloc());
+    let mut held = 0;
+    let mut is_met = true;
+    let mut between = Between {
+        stamp: None,
+        peer: None,
+    };
+    for turn in 0..u64::MAX {
+        if held == sessions {
+            return Ok(());
+        }
+        pause(rt, turn, how.every);
+        look_and_do(rt, paths, how, &mut random, &mut turns, err, cut)?;
+        let met = follow_once(rt, file, server, true, key, out, err, cut, &mut between)?;
+        tell_change(rt, server, met > 0, &mut is_met);
+        held += met;
+    }
+    Err(JobError::Command(CommandError::Io))
+}
+
+/// Keeps a text file and a journal in step as [`keep_mirror`] does, and holds a session with a server after each turn, as
+/// [`follow_file`](crate::following::follow_file) does, until as many as said were held. So the text file, the journal and the
+/// server's journal come to one text.
+///
+/// A session that can't be held since the server is away, or another has the journal, is waited out, also the first one: the
+/// standard error of the runtime says so, and when one is held again.
+pub fn share_mirror<'a, R: Disk + Net + Clock + Eprint + AllocGlobal, W: Write, E: Write>(
+    rt: &'a R,
+    file: &'a str,
+    how: &Keeping,
+    server: &Following,
+    sessions: u64,
+    key: Option<[u8; 32]>,
+    out: &mut W,
+    err: &mut E,
+    cut: &mut Option<u64>,
+) -> Result<(), JobError>
+    requires { cut.old ≡ None }
+    ensures cuts { OnOk result (cut.new ≡ None) }
+    ensures may_cut { OnErr result (MayCutFile (R.saw rt.now) file.now cut.new) }
+    ensures told { TellsShared (R.saw rt.now) file.now (E.contents err.old) (E.contents err.new) }
+    ensures ok { OnOk result (GrowsBy (IsFollowed (R.saw rt.now) file.now key sessions)
+        (W.contents out.old) (W.contents out.new)) }
+    ensures err { OnErr result
+        (GrowsPart (λ printed. (n : ℕ) × IsFollowed (R.saw rt.now) file.now key n printed)
+        (W.contents out.old) (W.contents out.new)) }
+{
+    match start(rt, file, how.note, key) {
+        Ok((paths, random)) => share_on(
+            rt, file, &paths, how, server, sessions, random, key, out, err, cut,
+        ),
+        Err(error) => Err(JobError::Command(error)),
     }
 }

@@ -8,7 +8,7 @@ ghost use Rattle.tp_disk.specs.Opening.{MayCutFile, OpensUnder};
 ghost use Rattle.tp_online.specs.Network.{IsPageShown, beside_line, page_line as line_of_page};
 ghost use Rattle.tp_online.specs.Sessions.{ReportsEach};
 ghost use Rattle.tp_online.specs.Showing.{AllTakePart, ShowsJournal, WasShown};
-ghost use Rattle.tp_online.specs.Watching.{Watches};
+ghost use Rattle.tp_online.specs.Watching.{Watches, note_of};
 ghost use Rattle.tp_report.specs.Telling.{GrowsBy, GrowsPart};
 ghost use Rattle.tp_served.specs.Calls.{AreOf};
 ghost use Rattle.tp_textpeer.specs.Output.{AppendsPart};
@@ -16,6 +16,7 @@ ghost use Rattle.tp_textpeer.specs.Output.{AppendsPart};
 use crate::accepting::{KEPT, Teller, WEB_PLACES};
 use crate::hosting::{Server, ServerAt, Stage, take_part};
 use crate::listening::{Listening, STOPPED, Source, bind, listen, open_anew};
+use crate::mirrored::{Mirrored, Noted, mirrored_at, prepare};
 use crate::seating::{Seated, end_watched, seat_watched};
 use crate::serving::listening_line;
 use crate::watching::{Closable, Door, Doors, Ending, watch};
@@ -232,7 +233,7 @@ fn listeners_on<'a, K: Ledger, R: Net + Wait + Clock + Eprint + AllocGlobal>(
 // Shows the page, and watches the peer meanwhile: the listeners end with the serving.
 fn show_watched<
     'x,
-    R: Net + Threads + Wait + Clock + Eprint + AllocGlobal + Sync,
+    R: Disk + Net + Threads + Wait + Clock + Eprint + AllocGlobal + Sync,
     S: Read + Write + OpenStream + Send + Drop,
     L: OpenListener<Stream = S> + Sync + Drop,
     J: Journal + Send,
@@ -241,12 +242,15 @@ fn show_watched<
     listeners: Listeners<'_, L>,
     hosting: &Hosting<'x>,
     ending: &'x Ending,
+    mirrored: &Option<Mirrored<'_>>,
     served: &Served<J>,
     seats: Vec<Seat>,
     seat: Seat,
     key: [u8; 32],
 ) -> Result<(Vec<Seat>, Seat), JobError>
 where
+    R::File: Send,
+    R::New: Send,
     R::Listener: Sync,
     R::Stream: Send,
     requires beside { is_some listeners.sessions ≡ is_some hosting.now.serve }
@@ -256,7 +260,7 @@ where
         back.0.items) }
     ensures of { IfOk result (λ back. AreOf served.now.served back.0.items
         × (length back.0.items ≡ length seats.items)) }
-    ensures watches { IfOk result (λ back. Watches seat back.1) }
+    ensures watches { IfOk result (λ back. Watches (R.saw rt.now) (note_of mirrored.now) seat back.1) }
 {
     let Listeners {
         page,
@@ -278,8 +282,8 @@ where
         rt,
         move ||
             requires { seat.served ≡ served.now.served }
-            ensures { Watches seat result }
-        { watch(rt, ending, doors, ended, served, seat) },
+            ensures { Watches (R.saw rt.entry.now) (note_of mirrored.entry.now) seat result }
+        { watch(rt, ending, doors, ended, mirrored, served, seat) },
         move ||
             requires of { AreOf served.now.served seats.items }
             requires beside { is_some stage.now.sessions ≡ is_some hosting.now.serve }
@@ -299,7 +303,7 @@ where
 // Shows the page as [`show_watched`] does, on places that are counted by the ledger.
 fn show_counted<
     K: Ledger + Send + Sync,
-    R: Net + Threads + Wait + Clock + Eprint + AllocGlobal + Sync,
+    R: Disk + Net + Threads + Wait + Clock + Eprint + AllocGlobal + Sync,
     J: Journal + Send,
 >(
     rt: &R,
@@ -307,6 +311,7 @@ fn show_counted<
     site: &Site,
     hosting: &Hosting<'_>,
     ending: &Ending,
+    mirrored: &Option<Mirrored<'_>>,
     served: &Served<J>,
     seats: Vec<Seat>,
     seat: Seat,
@@ -314,6 +319,8 @@ fn show_counted<
     blank: Blank,
 ) -> Result<(Vec<Seat>, Seat), JobError>
 where
+    R::File: Send,
+    R::New: Send,
     R::Listener: Sync,
     R::Stream: Send,
     requires beside { is_some bound.now.sessions ≡ is_some hosting.now.serve }
@@ -326,17 +333,17 @@ where
         back.0.items) }
     ensures of { IfOk result (λ back. AreOf served.now.served back.0.items
         × (length back.0.items ≡ length seats.items)) }
-    ensures watches { IfOk result (λ back. Watches seat back.1) }
+    ensures watches { IfOk result (λ back. Watches (R.saw rt.now) (note_of mirrored.now) seat back.1) }
 {
     let places = Places::<K>::new(blank, WEB_PLACES);
     let listeners = listeners_on(rt, bound, site, &places);
-    show_watched(rt, listeners, hosting, ending, served, seats, seat, key)
+    show_watched(rt, listeners, hosting, ending, mirrored, served, seats, seat, key)
 }
 
 // Shows the peer, on as many seats as there may be, and ends that with those that came back: the peer that the closing gives. One
 // whose journal failed meanwhile is refused.
 fn show_peer<
-    R: Net + Threads + Wait + Clock + Eprint + AllocGlobal + Sync,
+    R: Disk + Net + Threads + Wait + Clock + Eprint + AllocGlobal + Sync,
     F: Write + OpenFile + Send + Drop,
 >(
     rt: &R,
@@ -345,13 +352,16 @@ fn show_peer<
     secret: Secret,
     key: [u8; 32],
     ending: &Ending,
+    mirrored: &Option<Mirrored<'_>>,
     peer: Peer<DurableJournal<F>>,
 ) -> Result<Peer<DurableJournal<F>>, JobError>
 where
+    R::File: Send,
+    R::New: Send,
     R::Listener: Sync,
     R::Stream: Send,
     requires { is_some bound.now.sessions ≡ is_some hosting.now.serve }
-    ensures { IfOk result (λ p. WasShown hosting.now peer p) }
+    ensures { IfOk result (λ p. WasShown (R.saw rt.now) (note_of mirrored.now) hosting.now peer p) }
 {
     let Ok(site) = Site::at(rt.alloc(), bound.at, secret) else {
         drop(peer);
@@ -368,6 +378,7 @@ where
         &site,
         hosting,
         ending,
+        mirrored,
         &served,
         seats,
         watch,
@@ -394,6 +405,7 @@ where
 fn show_all<R: Disk + Net + Threads + Wait + Clock + Eprint + AllocGlobal + Sync, E: Write>(
     rt: &R,
     source: &Source<'_>,
+    mirrored: &Option<Mirrored<'_>>,
     bound: &Bound<R::Listener>,
     hosting: &Hosting<'_>,
     secret: Secret,
@@ -403,13 +415,14 @@ fn show_all<R: Disk + Net + Threads + Wait + Clock + Eprint + AllocGlobal + Sync
 ) -> Result<Peer<DurableJournal<R::File>>, JobError>
 where
     R::File: Send,
+    R::New: Send,
     R::Listener: Sync,
     R::Stream: Send,
     requires beside { is_some bound.now.sessions ≡ is_some hosting.now.serve }
     requires opens { OfLocked (R.saw rt.now) source.now.file.now
         (λ bytes. OpensUnder source.now.key bytes peer) }
     ensures shown { IfOk result (λ p. OfLocked (R.saw rt.now) source.now.file.now
-        (λ bytes. ShowsJournal hosting.now source.now.key bytes p)) }
+        (λ bytes. ShowsJournal (R.saw rt.now) (note_of mirrored.now) hosting.now source.now.key bytes p)) }
     ensures early { (cuts : List (Option ℕ)) × ReportsEach (R.saw rt.now) source.now.file.now cuts
         (E.contents err.old) (E.contents err.new) }
 {
@@ -419,7 +432,7 @@ where
     for _ in 0..u64::MAX {
         let stamp = rt.stamp(source.file);
         let ending = Ending::new();
-        match show_peer(rt, bound, hosting, secret, key, &ending, peer) {
+        match show_peer(rt, bound, hosting, secret, key, &ending, mirrored, peer) {
             Ok(shown) => return Ok(shown),
             Err(error) => {
                 secret = with_challenges(rt, secret.key)?;
@@ -441,6 +454,7 @@ fn show_at<
 >(
     rt: &R,
     source: &Source<'_>,
+    mirrored: &Option<Mirrored<'_>>,
     listening: Listening<R::Listener, R::File>,
     hosting: &Hosting<'_>,
     secret: Secret,
@@ -450,12 +464,13 @@ fn show_at<
 ) -> Result<Peer<DurableJournal<R::File>>, JobError>
 where
     R::File: Send,
+    R::New: Send,
     R::Listener: Sync,
     R::Stream: Send,
     requires { OfLocked (R.saw rt.now) source.now.file.now
         (λ bytes. OpensUnder source.now.key bytes listening.peer) }
     ensures shown { IfOk result (λ p. OfLocked (R.saw rt.now) source.now.file.now
-        (λ bytes. ShowsJournal hosting.now source.now.key bytes p)) }
+        (λ bytes. ShowsJournal (R.saw rt.now) (note_of mirrored.now) hosting.now source.now.key bytes p)) }
     ensures early { (cuts : List (Option ℕ)) × ReportsEach (R.saw rt.now) source.now.file.now cuts
         (E.contents err.old) (E.contents err.new) }
     ensures ok { OnOk result
@@ -477,7 +492,7 @@ where
                 sessions,
             };
             match tell_page(rt.alloc(), page, &secret.key, beside, out) {
-                Ok(()) => show_all(rt, source, &bound, hosting, secret, key, peer, err),
+                Ok(()) => show_all(rt, source, mirrored, &bound, hosting, secret, key, peer, err),
                 Err(error) => {
                     drop(peer);
                     Err(error)
@@ -488,6 +503,49 @@ where
             drop(peer);
             Err(error)
         }
+    }
+}
+
+// Shows the journal, as [`web_file`] does.
+fn show_source<
+    R: Disk + Net + Threads + Wait + Clock + Eprint + AllocGlobal + Sync,
+    W: Write,
+    E: Write,
+>(
+    rt: &R,
+    source: &Source<'_>,
+    mirrored: &Option<Mirrored<'_>>,
+    hosting: &Hosting<'_>,
+    out: &mut W,
+    err: &mut E,
+    cut: &mut Option<u64>,
+) -> Result<Peer<DurableJournal<R::File>>, JobError>
+where
+    R::File: Send,
+    R::New: Send,
+    R::Listener: Sync,
+    R::Stream: Send,
+    requires { cut.old ≡ None }
+    ensures cuts { OnOk result (cut.new ≡ None) }
+    ensures may_cut { OnErr result (MayCutFile (R.saw rt.now) source.now.file.now cut.new) }
+    ensures early { (cuts : List (Option ℕ)) × ReportsEach (R.saw rt.now) source.now.file.now cuts
+        (E.contents err.old) (E.contents err.new) }
+    ensures shown { IfOk result (λ p. OfLocked (R.saw rt.now) source.now.file.now
+        (λ bytes. ShowsJournal (R.saw rt.now) (note_of mirrored.now) hosting.now source.now.key bytes p)) }
+    ensures ok { OnOk result
+        (GrowsBy (IsPageShown hosting.now) (W.contents out.old) (W.contents out.new)) }
+    ensures err { IfErr result (λ _. Keeps (W.contents out.old) (W.contents out.new)
+        ⊎ GrowsPart (IsPageShown hosting.now) (W.contents out.old) (W.contents out.new)) }
+{
+    let windows = key_or_random(rt, source.key)?;
+    let secret = draw_secret(rt)?;
+    match listen(rt, source, Address::Socket(hosting.page), cut) {
+        Ok(listening) => {
+            report(rt.alloc(), source.file, *cut, None, err);
+            *cut = None;
+            show_at(rt, source, mirrored, listening, hosting, secret, windows, out, err)
+        }
+        Err(error) => Err(error),
     }
 }
 
@@ -508,6 +566,7 @@ pub fn web_file<
     rt: &R,
     file: &str,
     hosting: Hosting<'_>,
+    noted: &Option<Noted<'_>>,
     key: Option<[u8; 32]>,
     wait: u64,
     out: &mut W,
@@ -516,6 +575,7 @@ pub fn web_file<
 ) -> Result<Peer<DurableJournal<R::File>>, JobError>
 where
     R::File: Send,
+    R::New: Send,
     R::Listener: Sync,
     R::Stream: Send,
     requires { cut.old ≡ None }
@@ -524,20 +584,18 @@ where
     ensures early { (cuts : List (Option ℕ)) × ReportsEach (R.saw rt.now) file.now cuts
         (E.contents err.old) (E.contents err.new) }
     ensures shown { IfOk result (λ p. OfLocked (R.saw rt.now) file.now
-        (λ bytes. ShowsJournal hosting.entry key bytes p)) }
+        (λ bytes. (note : Option (List ℕ)) × (is_some note ≡ is_some noted.now)
+        × ShowsJournal (R.saw rt.now) note hosting.entry key bytes p)) }
     ensures ok { OnOk result
         (GrowsBy (IsPageShown hosting.entry) (W.contents out.old) (W.contents out.new)) }
     ensures err { IfErr result (λ _. Keeps (W.contents out.old) (W.contents out.new)
         ⊎ GrowsPart (IsPageShown hosting.entry) (W.contents out.old) (W.contents out.new)) }
 {
-    let source = Source { file, key, wait };
-    let windows = key_or_random(rt, key)?;
-    let secret = draw_secret(rt)?;
-    match listen(rt, &source, Address::Socket(hosting.page), cut) {
-        Ok(listening) => {
-            report(rt.alloc(), file, *cut, None, err);
-            *cut = None;
-            show_at(rt, &source, listening, &hosting, secret, windows, out, err)
+    match prepare(rt, file, noted, key, wait, err, cut) {
+        Ok(paths) => {
+            let source = Source { file, key, wait };
+            let mirrored = mirrored_at(&paths, noted);
+            show_source(rt, &source, &mirrored, &hosting, out, err, cut)
         }
         Err(error) => Err(error),
     }

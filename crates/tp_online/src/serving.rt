@@ -1,6 +1,6 @@
 //! The commands `serve` and `sync`.
 
-ghost use Rattle.std.specs.Prelude.{◌≡◌, ◌⊎◌, ℕ, ◌+◌, List, IfOk, IfErr, None, Ok, OnErr, OnOk, Option, length, min};
+ghost use Rattle.std.specs.Prelude.{◌≡◌, ◌⊎◌, ℕ, ◌+◌, List, IfOk, IfErr, None, Ok, OnErr, OnOk, Option, is_some, length, min};
 ghost use Rattle.std.specs.Io.KnownBytes.{Appends, Keeps};
 ghost use Rattle.std.specs.String.{string_bytes};
 ghost use Rattle.tp_textpeer.specs.Output.{AppendsPart};
@@ -12,10 +12,11 @@ ghost use Rattle.tp_session.specs.declared.session.Role.TheVariants.{Client};
 ghost use Rattle.tp_net.specs.Sessions.{AllSit, AttemptsSessionAlone};
 ghost use Rattle.tp_served.specs.Calls.{AreOf};
 ghost use Rattle.tp_online.specs.Sessions.{HasMet, ReportsEach, ServesJournal, WasServed};
-ghost use Rattle.tp_online.specs.Watching.{Watches};
+ghost use Rattle.tp_online.specs.Watching.{Watches, note_of};
 
 use crate::accepting::{SERVE_PLACES, Teller};
 use crate::listening::{Listening, STOPPED, Source, listen, open_anew, open_peer};
+use crate::mirrored::{Mirrored, Noted, mirrored_at, prepare};
 use crate::seating::{Seated, end_watched, hold, seat_watched};
 use crate::watching::{Closable, Door, Doors, Ending, watch};
 use crossbeam_channel::Sender;
@@ -157,7 +158,7 @@ fn hold_until<
 
 // Holds sessions with those that a listener accepts, and watches the peer meanwhile: the listener ends with the serving.
 fn hold_watched<
-    R: Net + Threads + Wait + Clock + Eprint + AllocGlobal + Sync,
+    R: Disk + Net + Threads + Wait + Clock + Eprint + AllocGlobal + Sync,
     S: Read + Write + OpenStream + Send + Drop,
     L: OpenListener<Stream = S> + Sync + Drop,
     M: Sync,
@@ -166,11 +167,14 @@ fn hold_watched<
     rt: &R,
     listener: L,
     holding: &Holding<'_, M>,
+    mirrored: &Option<Mirrored<'_>>,
     served: &Served<J>,
     seats: Vec<Seat>,
     seat: Seat,
 ) -> Result<(Vec<Seat>, Seat), JobError>
 where
+    R::File: Send,
+    R::New: Send,
     R::Listener: Sync,
     R::Stream: Send,
     requires are { AreOf served.now.served seats.items }
@@ -178,7 +182,7 @@ where
     ensures sat { IfOk result (λ back. AllSit served.now.opened.id seats.items back.0.items) }
     ensures of { IfOk result (λ back. AreOf served.now.served back.0.items
         × (length back.0.items ≡ length seats.items)) }
-    ensures watches { IfOk result (λ back. Watches seat back.1) }
+    ensures watches { IfOk result (λ back. Watches (R.saw rt.now) (note_of mirrored.now) seat back.1) }
 {
     let doors = Doors {
         main: listener.local_addr().ok(),
@@ -193,8 +197,8 @@ where
         rt,
         move ||
             requires { seat.served ≡ served.now.served }
-            ensures { Watches seat result }
-        { watch(rt, ending, doors, ended, served, seat) },
+            ensures { Watches (R.saw rt.entry.now) (note_of mirrored.entry.now) seat result }
+        { watch(rt, ending, doors, ended, mirrored, served, seat) },
         move ||
             requires { AreOf served.now.served seats.items }
             ensures sat { IfOk result
@@ -212,17 +216,20 @@ where
 // Holds sessions as [`hold_watched`] does, on places that are counted by the ledger.
 fn hold_counted<
     K: Ledger + Send + Sync,
-    R: Net + Threads + Wait + Clock + Eprint + AllocGlobal + Sync,
+    R: Disk + Net + Threads + Wait + Clock + Eprint + AllocGlobal + Sync,
     J: Journal + Send,
 >(
     rt: &R,
     holding: &Holding<'_, R::Listener>,
+    mirrored: &Option<Mirrored<'_>>,
     served: &Served<J>,
     seats: Vec<Seat>,
     seat: Seat,
     blank: Blank,
 ) -> Result<(Vec<Seat>, Seat), JobError>
 where
+    R::File: Send,
+    R::New: Send,
     R::Listener: Sync,
     R::Stream: Send,
     requires are { AreOf served.now.served seats.items }
@@ -233,12 +240,12 @@ where
     ensures sat { IfOk result (λ back. AllSit served.now.opened.id seats.items back.0.items) }
     ensures of { IfOk result (λ back. AreOf served.now.served back.0.items
         × (length back.0.items ≡ length seats.items)) }
-    ensures watches { IfOk result (λ back. Watches seat back.1) }
+    ensures watches { IfOk result (λ back. Watches (R.saw rt.now) (note_of mirrored.now) seat back.1) }
 {
     let places = Places::<K>::new(blank, SERVE_PLACES);
     let kept = holding.how.workers as u64;
     let patient = Patient::new(rt, holding.listener, &places, kept, &Teller);
-    hold_watched(rt, patient, holding, served, seats, seat)
+    hold_watched(rt, patient, holding, mirrored, served, seats, seat)
 }
 
 // How many seats a server gets: one for each session at once, and one that watches, but 64 at most.
@@ -255,17 +262,20 @@ fn seats_for(workers: usize) -> usize
 // Holds the sessions, and ends the serving with the seats that came back: the peer that the closing gives. One whose
 // journal failed meanwhile is refused.
 fn hold_sessions<
-    R: Net + Threads + Wait + Clock + Eprint + AllocGlobal + Sync,
+    R: Disk + Net + Threads + Wait + Clock + Eprint + AllocGlobal + Sync,
     F: Write + OpenFile + Send + Drop,
 >(
     rt: &R,
     holding: &Holding<'_, R::Listener>,
+    mirrored: &Option<Mirrored<'_>>,
     peer: Peer<DurableJournal<F>>,
 ) -> Result<Peer<DurableJournal<F>>, JobError>
 where
+    R::File: Send,
+    R::New: Send,
     R::Listener: Sync,
     R::Stream: Send,
-    ensures { IfOk result (λ p. WasServed peer holding.now.how.now.workers p) }
+    ensures { IfOk result (λ p. WasServed (R.saw rt.now) (note_of mirrored.now) peer holding.now.how.now.workers p) }
 {
     let Seated {
         served,
@@ -275,6 +285,7 @@ where
     match hold_counted::<Brand, R, DurableJournal<F>>(
         rt,
         holding,
+        mirrored,
         &served,
         seats,
         watch,
@@ -300,6 +311,7 @@ where
 fn hold_all<R: Disk + Net + Threads + Wait + Clock + Eprint + AllocGlobal + Sync, E: Write>(
     rt: &R,
     source: &Source<'_>,
+    mirrored: &Option<Mirrored<'_>>,
     listener: &R::Listener,
     how: &Serving,
     peer: Peer<DurableJournal<R::File>>,
@@ -307,12 +319,13 @@ fn hold_all<R: Disk + Net + Threads + Wait + Clock + Eprint + AllocGlobal + Sync
 ) -> Result<Peer<DurableJournal<R::File>>, JobError>
 where
     R::File: Send,
+    R::New: Send,
     R::Listener: Sync,
     R::Stream: Send,
     requires { OfLocked (R.saw rt.now) source.now.file.now
         (λ bytes. OpensUnder source.now.key bytes peer) }
     ensures served { IfOk result (λ p. OfLocked (R.saw rt.now) source.now.file.now
-        (λ bytes. ServesJournal source.now.key bytes how.now.workers p)) }
+        (λ bytes. ServesJournal (R.saw rt.now) (note_of mirrored.now) source.now.key bytes how.now.workers p)) }
     ensures early { (cuts : List (Option ℕ)) × ReportsEach (R.saw rt.now) source.now.file.now cuts
         (E.contents err.old) (E.contents err.new) }
 {
@@ -327,7 +340,7 @@ where
             left,
             ending: &ending,
         };
-        match hold_sessions(rt, &holding, peer) {
+        match hold_sessions(rt, &holding, mirrored, peer) {
             Ok(served) => return Ok(served),
             Err(error) => {
                 left = left.saturating_sub(ending.connection_count(rt));
@@ -351,6 +364,7 @@ fn hold_and_report<
 >(
     rt: &R,
     source: &Source<'_>,
+    mirrored: &Option<Mirrored<'_>>,
     listening: Listening<R::Listener, R::File>,
     how: &Serving,
     out: &mut W,
@@ -358,12 +372,13 @@ fn hold_and_report<
 ) -> Result<Peer<DurableJournal<R::File>>, JobError>
 where
     R::File: Send,
+    R::New: Send,
     R::Listener: Sync,
     R::Stream: Send,
     requires { OfLocked (R.saw rt.now) source.now.file.now
         (λ bytes. OpensUnder source.now.key bytes listening.peer) }
     ensures served { IfOk result (λ p. OfLocked (R.saw rt.now) source.now.file.now
-        (λ bytes. ServesJournal source.now.key bytes how.now.workers p)) }
+        (λ bytes. ServesJournal (R.saw rt.now) (note_of mirrored.now) source.now.key bytes how.now.workers p)) }
     ensures early { (cuts : List (Option ℕ)) × ReportsEach (R.saw rt.now) source.now.file.now cuts
         (E.contents err.old) (E.contents err.new) }
     ensures ok { OnOk result
@@ -377,7 +392,7 @@ where
         port: _,
         peer,
     } = listening;
-    match hold_all(rt, source, &listener, how, peer, err) {
+    match hold_all(rt, source, mirrored, &listener, how, peer, err) {
         Ok(peer) => match tell_sessions(rt.alloc(), how.sessions, out) {
             Ok(()) => Ok(peer),
             Err(error) => {
@@ -397,6 +412,7 @@ fn serve_on<
 >(
     rt: &R,
     source: &Source<'_>,
+    mirrored: &Option<Mirrored<'_>>,
     listening: Listening<R::Listener, R::File>,
     how: &Serving,
     out: &mut W,
@@ -404,12 +420,13 @@ fn serve_on<
 ) -> Result<Peer<DurableJournal<R::File>>, JobError>
 where
     R::File: Send,
+    R::New: Send,
     R::Listener: Sync,
     R::Stream: Send,
     requires { OfLocked (R.saw rt.now) source.now.file.now
         (λ bytes. OpensUnder source.now.key bytes listening.peer) }
     ensures served { IfOk result (λ p. OfLocked (R.saw rt.now) source.now.file.now
-        (λ bytes. ServesJournal source.now.key bytes how.now.workers p)) }
+        (λ bytes. ServesJournal (R.saw rt.now) (note_of mirrored.now) source.now.key bytes how.now.workers p)) }
     ensures early { (cuts : List (Option ℕ)) × ReportsEach (R.saw rt.now) source.now.file.now cuts
         (E.contents err.old) (E.contents err.new) }
     ensures ok { OnOk result
@@ -418,11 +435,54 @@ where
         (λ _. GrowsPart (IsServeOutput how.now.sessions) (W.contents out.old) (W.contents out.new)) }
 {
     match tell_port(rt.alloc(), listening.port, out) {
-        Ok(()) => hold_and_report(rt, source, listening, how, out, err),
+        Ok(()) => hold_and_report(rt, source, mirrored, listening, how, out, err),
         Err(error) => {
             drop(listening);
             Err(error)
         }
+    }
+}
+
+// Serves the journal, as [`serve_file`] does.
+fn serve_source<
+    R: Disk + Net + Threads + Wait + Clock + Eprint + AllocGlobal + Sync,
+    W: Write,
+    E: Write,
+>(
+    rt: &R,
+    source: &Source<'_>,
+    mirrored: &Option<Mirrored<'_>>,
+    addr: Address,
+    how: &Serving,
+    out: &mut W,
+    err: &mut E,
+    cut: &mut Option<u64>,
+) -> Result<Peer<DurableJournal<R::File>>, JobError>
+where
+    R::File: Send,
+    R::New: Send,
+    R::Listener: Sync,
+    R::Stream: Send,
+    requires { cut.old ≡ None }
+    ensures cuts { OnOk result (cut.new ≡ None) }
+    ensures may_cut { OnErr result
+        (MayCutFile (R.saw rt.now) source.now.file.now cut.new) }
+    ensures early { (cuts : List (Option ℕ)) × ReportsEach (R.saw rt.now) source.now.file.now cuts
+        (E.contents err.old) (E.contents err.new) }
+    ensures served { IfOk result (λ p. OfLocked (R.saw rt.now) source.now.file.now
+        (λ bytes. ServesJournal (R.saw rt.now) (note_of mirrored.now) source.now.key bytes how.now.workers p)) }
+    ensures ok { OnOk result
+        (GrowsBy (IsServeOutput how.now.sessions) (W.contents out.old) (W.contents out.new)) }
+    ensures err { IfErr result (λ _. Keeps (W.contents out.old) (W.contents out.new)
+        ⊎ GrowsPart (IsServeOutput how.now.sessions) (W.contents out.old) (W.contents out.new)) }
+{
+    match listen(rt, source, addr, cut) {
+        Ok(listening) => {
+            report(rt.alloc(), source.file, *cut, None, err);
+            *cut = None;
+            serve_on(rt, source, mirrored, listening, how, out, err)
+        }
+        Err(error) => Err(error),
     }
 }
 
@@ -444,6 +504,7 @@ pub fn serve_file<
     file: &str,
     addr: Address,
     how: &Serving,
+    noted: &Option<Noted<'_>>,
     key: Option<[u8; 32]>,
     out: &mut W,
     err: &mut E,
@@ -451,6 +512,7 @@ pub fn serve_file<
 ) -> Result<Peer<DurableJournal<R::File>>, JobError>
 where
     R::File: Send,
+    R::New: Send,
     R::Listener: Sync,
     R::Stream: Send,
     requires { cut.old ≡ None }
@@ -460,22 +522,22 @@ where
     ensures early { (cuts : List (Option ℕ)) × ReportsEach (R.saw rt.now) file.now cuts
         (E.contents err.old) (E.contents err.new) }
     ensures served { IfOk result (λ p. OfLocked (R.saw rt.now) file.now
-        (λ bytes. ServesJournal key bytes how.now.workers p)) }
+        (λ bytes. (note : Option (List ℕ)) × (is_some note ≡ is_some noted.now)
+        × ServesJournal (R.saw rt.now) note key bytes how.now.workers p)) }
     ensures ok { OnOk result
         (GrowsBy (IsServeOutput how.now.sessions) (W.contents out.old) (W.contents out.new)) }
     ensures err { IfErr result (λ _. Keeps (W.contents out.old) (W.contents out.new)
         ⊎ GrowsPart (IsServeOutput how.now.sessions) (W.contents out.old) (W.contents out.new)) }
 {
-    let source = Source {
-        file,
-        key,
-        wait: how.wait,
-    };
-    match listen(rt, &source, addr, cut) {
-        Ok(listening) => {
-            report(rt.alloc(), file, *cut, None, err);
-            *cut = None;
-            serve_on(rt, &source, listening, how, out, err)
+    match prepare(rt, file, noted, key, how.wait, err, cut) {
+        Ok(paths) => {
+            let source = Source {
+                file,
+                key,
+                wait: how.wait,
+            };
+            let mirrored = mirrored_at(&paths, noted);
+            serve_source(rt, &source, &mirrored, addr, how, out, err, cut)
         }
         Err(error) => Err(error),
     }

@@ -1,14 +1,18 @@
 //! Watching a peer that is served: whether it runs, and its journal is still where it was, also while nobody asks.
 
-ghost use Rattle.std.specs.Prelude.{◌≡◌, not};
-ghost use Rattle.tp_online.specs.Watching.{Watches};
+ghost use Rattle.std.specs.Prelude.{◌≡◌, ◌⊎◌, not};
+ghost use Rattle.tp_online.specs.Watching.{MayTurn, Watches, note_of};
+ghost use Rattle.tp_served.specs.Seats.{Visits};
 
+use crate::mirrored::{Mirrored, turn_beside};
+use crate::mirroring::{Turns, no_turns};
 use crossbeam_channel::{Receiver, RecvTimeoutError};
 use std::io;
 use std::io::ErrorKind;
 use std::net::{Net, OpenListener, SocketAddr};
 use std::sync::{Mutex, Wait};
 use std::time::{Clock, Duration};
+use tp_disk::Disk;
 use tp_journal::Journal;
 use tp_net::reach;
 use tp_peer::Peer;
@@ -198,46 +202,69 @@ fn end<R: Net + Wait>(rt: &R, ending: &Ending, doors: Doors, changes: usize) {
     call(rt, doors.beside, beside_ended);
 }
 
-// Looks at the served peer each second, until nothing sends to the receiver any more. Where it has stopped, the ending is set, and
-// the listeners are called: each of them closes what it accepts then, and ends.
-#[tactic(auto, using(crate::proofs::WatchLaws::not_yet, crate::proofs::WatchLaws::once_more))]
-fn keep_watch<R: Net + Wait + Clock, J: Journal>(
+// Looks at the served peer each second, until nothing sends to the receiver any more, and brings it in step with the text file that
+// is kept beside it, where one is. Where it has stopped, the ending is set, and the listeners are called: each of them closes what it
+// accepts then, and ends.
+#[tactic(auto, using(crate::proofs::WatchLaws::not_yet, crate::proofs::WatchLaws::once_more, crate::proofs::WatchLaws::turned_more))]
+fn keep_watch<R: Disk + Net + Wait + Clock + Eprint + AllocGlobal, J: Journal>(
     rt: &R,
     ending: &Ending,
     doors: Doors,
     serving: &Receiver<()>,
+    mirrored: &Option<Mirrored<'_>>,
     served: &Served<J>,
-    seat: &mut Seat,
-)
-    requires { seat.old.served ≡ served.now.served }
-    ensures { Watches seat.old seat.new }
+    seat: Seat,
+) -> Seat
+    requires { seat.served ≡ served.now.served }
+    ensures { Watches (R.saw rt.now) (note_of mirrored.now) seat result }
 {
+    let mut own = seat;
+    let mut turns = no_turns(rt.alloc());
     for _ in rt.forever() {
         match serving.recv_timeout(rt, Duration::from_secs(EVERY)) {
             Err(RecvTimeoutError::Timeout) => {}
             _ => break,
         }
-        if let Err(changes) = served.visit(rt, seat, &Look) {
+        if let Err(changes) = served.visit(rt, &mut own, &Look) {
             end(rt, ending, doors, changes);
         }
+        own = turn_of(rt, mirrored, &mut turns, served, own);
     }
+    own
 }
 
-/// Watches the served peer on the seat, which comes back: until nothing sends to the receiver any more, its journal is settled each
-/// second. A journal that is settled already is looked at alone, by two calls of the system. Where that fails the peer has stopped,
-/// and what is accepted from then on is closed.
-pub(crate) fn watch<R: Net + Wait + Clock, J: Journal>(
+// The seat after a turn with the text file that is kept beside the served peer, where one is.
+fn turn_of<R: Disk + Wait + Clock + Eprint + AllocGlobal, J: Journal>(
     rt: &R,
-    ending: &Ending,
-    doors: Doors,
-    serving: Receiver<()>,
+    mirrored: &Option<Mirrored<'_>>,
+    turns: &mut Turns,
     served: &Served<J>,
     seat: Seat,
 ) -> Seat
     requires { seat.served ≡ served.now.served }
-    ensures { Watches seat result }
+    ensures served { result.served ≡ served.now.served }
+    ensures turned { (result ≡ seat) ⊎ Visits seat.state (MayTurn (R.saw rt.now) (note_of mirrored.now)) result.state }
 {
-    let mut seat = seat;
-    keep_watch(rt, ending, doors, &serving, served, &mut seat);
-    seat
+    match mirrored {
+        Some(mirrored) => turn_beside(rt, mirrored, turns, served, seat),
+        None => seat,
+    }
+}
+
+/// Watches the served peer on the seat, which comes back: until nothing sends to the receiver any more, its journal is settled each
+/// second, and brought in step with the text file that is kept beside it, where one is. A journal that is settled already is looked
+/// at alone, by two calls of the system. Where that fails the peer has stopped, and what is accepted from then on is closed.
+pub(crate) fn watch<R: Disk + Net + Wait + Clock + Eprint + AllocGlobal, J: Journal>(
+    rt: &R,
+    ending: &Ending,
+    doors: Doors,
+    serving: Receiver<()>,
+    mirrored: &Option<Mirrored<'_>>,
+    served: &Served<J>,
+    seat: Seat,
+) -> Seat
+    requires { seat.served ≡ served.now.served }
+    ensures { Watches (R.saw rt.now) (note_of mirrored.now) seat result }
+{
+    keep_watch(rt, ending, doors, &serving, mirrored, served, seat)
 }

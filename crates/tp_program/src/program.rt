@@ -25,9 +25,10 @@ use std::{env, io};
 use tp_command_line::{Job, Subject, Wanted, line, words_asked};
 use tp_commands::CommandError;
 use tp_disk::{Disk, is_cut};
+use tp_mirror::Take;
 use tp_online::{
-    Following, Keeping, Serving, follow_file, keep_mirror, serve_file, session_file, sync_file,
-    web_file,
+    Following, Keeping, Noted, Serving, follow_file, keep_mirror, serve_file, session_file,
+    share_mirror, sync_file, web_file,
 };
 use tp_report::{DONE, JobError, REFUSED, Shown, ended_with, exit_status, note, note_text, report};
 use tp_session::Role;
@@ -48,6 +49,7 @@ pub fn run<
 >(rt: &R, commit: &str, terminals: Terminals) -> u8
 where
     R::File: Send,
+    R::New: Send,
     R::Listener: Sync,
     R::Stream: Send,
     ensures { result ≤ MISUSED }
@@ -87,6 +89,7 @@ pub fn run_words<
 >(rt: &R, words: &[S], commit: &str, terminals: Terminals) -> u8
 where
     R::File: Send,
+    R::New: Send,
     R::Listener: Sync,
     R::Stream: Send,
     ensures status { result ≤ MISUSED }
@@ -124,6 +127,7 @@ pub fn run_words_on<
 >(rt: &R, words: &[S], commit: &str, explains: bool, input: &mut I, out: &mut W, err: &mut E) -> u8
 where
     R::File: Send,
+    R::New: Send,
     R::Listener: Sync,
     R::Stream: Send,
     ensures status { result ≤ MISUSED }
@@ -164,6 +168,7 @@ pub fn run_job<
 >(rt: &R, job: Job, wait: u64, explains: bool, input: &mut I, out: &mut W, err: &mut E) -> u8
 where
     R::File: Send,
+    R::New: Send,
     R::Listener: Sync,
     R::Stream: Send,
     ensures status { result ≤ REFUSED }
@@ -240,6 +245,7 @@ fn do_job<
 ) -> Result<Option<u64>, JobError>
 where
     R::File: Send,
+    R::New: Send,
     R::Listener: Sync,
     R::Stream: Send,
     requires { cut.old ≡ None }
@@ -266,6 +272,8 @@ where
             workers,
             patience,
             is_verbose,
+            note,
+            take,
             key,
         } => {
             let how = Serving {
@@ -275,7 +283,17 @@ where
                 is_verbose,
                 wait,
             };
-            without_value(serve_file(rt, file, addr, &how, key, out, err, cut))
+            without_value(serve_file(
+                rt,
+                file,
+                addr,
+                &how,
+                &noted_of(note, take),
+                key,
+                out,
+                err,
+                cut,
+            ))
         }
         Job::Session {
             file,
@@ -325,9 +343,55 @@ where
             };
             Err(keep_mirror(rt, file, &how, key, err, cut))
         }
-        Job::Web { file, hosting, key } => without_value(web_file(
-            rt, file, hosting, key, wait, out, err, cut,
+        Job::Share {
+            file,
+            note,
+            take,
+            addr,
+            every,
+            sessions,
+            patience,
+            key,
+        } => {
+            let how = Keeping {
+                note,
+                take,
+                every: Duration::from_secs(every),
+                wait,
+            };
+            let server = Following {
+                addr,
+                every: Duration::from_secs(every),
+                patience: patience_of(patience),
+                wait,
+            };
+            without_value(share_mirror(rt, file, &how, &server, sessions, key, out, err, cut))
+        }
+        Job::Web {
+            file,
+            hosting,
+            note,
+            take,
+            key,
+        } => without_value(web_file(
+            rt,
+            file,
+            hosting,
+            &noted_of(note, take),
+            key,
+            wait,
+            out,
+            err,
+            cut,
         )),
+    }
+}
+
+// The text file that is kept in step with a journal that is served, where one is given.
+fn noted_of(note: Option<&str>, take: Option<Take>) -> Option<Noted<'_>> {
+    match note {
+        Some(note) => Some(Noted { note, take }),
+        None => None,
     }
 }
 

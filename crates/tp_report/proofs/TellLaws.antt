@@ -1,18 +1,10 @@
 -- What a stream holds after a line that was written, refused, or written in part.
-use Rattle.std.proofs.Common.{inl, inr, Bool, true, ◌≡◌, ◌∙◌, ◌⊎◌, ⊎_elim, ap, refl, subst, sym, ℕ, List, [], ◌∷◌, ◌++◌, length, Option, None, Some, Result, Ok, Err, append-nil, append_assoc, codes}
+use Rattle.std.proofs.Common.{inl, ◌≡◌, ◌∙◌, ◌⊎◌, ⊎_elim, ap, refl, subst, sym, ℕ, List, [], ◌∷◌, ◌++◌, Option, None, Some, Result, Ok, Err, append-nil, append_assoc, codes}
 use Rattle.std.proofs.KnownBytes.{Appends-nil}
-use Rattle.std.specs.Prelude.{IfErr, IfOk, IsOkAnd, MatchResult, OnErr, OnOk}
+use Rattle.std.specs.Prelude.{IfErr, IfOk, IsOkAnd, OnOk}
 use Rattle.std.specs.Io.KnownBytes.{Appends, Keeps}
-use Rattle.std.specs.List.{flat_map}
-use Rattle.std.specs.Prelude.{String}
-use Rattle.std.specs.String.{string_bytes}
-use Rattle.std.proofs.lemmas.List.{nil_from_length}
 use Rattle.tp_textpeer.specs.Output.{AppendsPart}
-use Rattle.tp_command_line.specs.declared.job.Subject.{Subject}
-use Rattle.tp_opid.specs.declared.hash.Hash.{Hash}
-use Rattle.tp_commands.specs.Reading.{hash_line, lines_of_made}
 use Rattle.tp_report.specs.Names.{refusal_lines}
-use Rattle.tp_report.specs.Notes.{IsNote, no_memory_note}
 use Rattle.tp_report.specs.Telling.{GrowsPart, IsToldOf, with_cut}
 use Rattle.tp_report.specs.declared.error.JobError.{JobError}
 use Rattle.tp_list.specs.Bytes.{line}

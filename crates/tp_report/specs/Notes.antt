@@ -1,8 +1,7 @@
 -- What is said below the line of a refusal, where that is asked for.
-use Rattle.std.specs.Prelude.{◌≡◌, ◌⊎◌, ◌++◌, ℕ, Bool, true, false, List, [], ◌∷◌, Option, Some, None, codes}
+use Rattle.std.specs.Prelude.{◌≡◌, ◌⊎◌, ◌++◌, ℕ, Bool, true, false, List, [], Some, codes, if◌then◌else◌}
 use Rattle.std.specs.Fmt.{decimal}
-use Rattle.std.specs.Borrow.{Bor}
-use Rattle.tp_commands.specs.declared.error.CommandError.TheVariants.{Io, OutOfMemory, Peer, Doc, Store, NotText, NotQuiet, BothHaveText, BadState}
+use Rattle.tp_commands.specs.declared.error.CommandError.TheVariants.{Io, OutOfMemory, Peer, Store, NotText, NotQuiet, BothHaveText, BadState}
 use Rattle.tp_document.specs.declared.error.DocError.TheVariants.{OtherDocument}
 use Rattle.tp_peer.specs.declared.error.PeerError.TheVariants.{JournalNotEmpty}
 use Rattle.tp_peer.specs.declared.error.PeerError.TheVariants as peer
@@ -10,19 +9,26 @@ use Rattle.tp_store.specs.declared.error.StoreError.TheVariants.{Damaged}
 use Rattle.tp_report.specs.declared.error.JobError.{JobError}
 use Rattle.tp_report.specs.declared.error.JobError.TheVariants.{Command, Show as ShowRefusal, Line}
 use Rattle.tp_command_line.specs.declared.job.Beside.{Beside}
-use Rattle.tp_command_line.specs.declared.job.Beside.TheVariants.{Loaded, Made, Read, Rescued, Text}
+use Rattle.tp_command_line.specs.declared.job.Beside.TheVariants.{Loaded, Made, Read, Rescued, Shared, Shown, Text}
 use Rattle.tp_command_line.specs.declared.job.Subject.{Subject}
 use Rattle.tp_list.specs.Bytes.{line}
+
+-- whether a refusal is of a text file, and not of the journal that it is beside
+abbrev pub is_of_text : JobError → Bool
+is_of_text (Command (NotText at)) = true
+is_of_text (Command NotQuiet) = true
+is_of_text (Command BothHaveText) = true
+is_of_text (Command BadState) = true
+is_of_text e = false
 
 -- The file that a refusal is about: the one beside the first, where its bytes don't recover or are no text, where it is of
 -- another document, or where it was to be made and something is there already; and else the first.
 abbrev pub fault_path : Beside → List ℕ → JobError → List ℕ
 fault_path (Read other) file (Command (Peer (peer.Store e))) = other.now
 fault_path (Read other) file (Command (Peer (peer.Doc OtherDocument))) = other.now
-fault_path (Text source) file (Command (NotText at)) = source.now
-fault_path (Text source) file (Command NotQuiet) = source.now
-fault_path (Text source) file (Command BothHaveText) = source.now
-fault_path (Text source) file (Command BadState) = source.now
+fault_path (Text source) file e = if is_of_text e then source.now else file
+fault_path (Shared source addr) file e = if is_of_text e then source.now else file
+fault_path (Shown source hosting) file e = if is_of_text e then source.now else file
 fault_path (Made out) file (Command (Peer JournalNotEmpty)) = out.now
 fault_path (Loaded journal) file (Command (Peer JournalNotEmpty)) = journal.now
 fault_path (Rescued (Some out) other) file (Command (Peer JournalNotEmpty)) = out.now

@@ -10,7 +10,7 @@ mod telling;
 mod terminal;
 
 pub use error::{JobError, Made};
-pub use log::{Log, tell_followed};
+pub use log::{Log, tell_followed, tell_refusal};
 pub use notes::{note, note_text};
 pub use telling::{
     DONE, REFUSED, applied_text, ended_with, exit_status, output_refusal, put, put_made, report,

@@ -4,7 +4,7 @@ ghost use Rattle.std.specs.Prelude.{◌≡◌, IfOk};
 ghost use Rattle.std.specs.String.{string_bytes};
 ghost use Rattle.tp_report.specs.Names.{name_of_outcome, session_line as line_of_session};
 
-use crate::error::session_name;
+use crate::error::{JobError, session_name};
 use std::alloc::Global;
 use tp_command_line::Address;
 use tp_commands::CommandError;
@@ -74,6 +74,14 @@ pub fn tell_followed<R: Eprint>(
     error: Option<NetError>,
 ) {
     if let Ok(line) = followed_line(alloc, addr, error) {
+        let _ = rt.eprint(line);
+    }
+}
+
+/// Prints a refusal on the standard error of the runtime, as a job's is printed. Where that fails, or memory is short, the line is
+/// missing.
+pub fn tell_refusal<R: Eprint>(rt: &R, alloc: Global, error: JobError) {
+    if let Ok(line) = format!(in alloc; "{error}\n") {
         let _ = rt.eprint(line);
     }
 }

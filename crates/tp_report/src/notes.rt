@@ -1,8 +1,8 @@
 //! What is said below the line of a refusal, where that is asked for: which file it is about, and what to do.
 
-ghost use Rattle.std.specs.Prelude.{◌≡◌, IfOk, MatchResult, OnErr, true, IsTrue};
+ghost use Rattle.std.specs.Prelude.{◌≡◌, IfOk, MatchResult, OnErr, true, IsTrue, if◌then◌else◌};
 ghost use Rattle.std.specs.String.{string_bytes};
-ghost use Rattle.tp_report.specs.Notes.{IsNote, IsNoteOf, names_file as is_file_named, no_memory_note, path_at_fault as path_of_fault, fault_place as text_of_fault_place};
+ghost use Rattle.tp_report.specs.Notes.{IsNote, IsNoteOf, is_of_text as in_text, names_file as is_file_named, no_memory_note, path_at_fault as path_of_fault, fault_place as text_of_fault_place};
 ghost use Rattle.tp_list.specs.Bytes.{line};
 
 use crate::advice::{
@@ -21,6 +21,26 @@ use tp_session::NetError;
 use tp_simulate::shape_of;
 use tp_store::StoreError;
 
+// Whether a refusal is of a text file, and not of the journal that it is beside.
+fn is_of_text(error: &JobError) -> bool
+    ensures { result ≡ in_text error.now }
+{
+    matches!(
+        error,
+        JobError::Command(CommandError::NotText { .. })
+            | JobError::Command(CommandError::NotQuiet)
+            | JobError::Command(CommandError::BothHaveText)
+            | JobError::Command(CommandError::BadState)
+    )
+}
+
+// The path of the one of the two that a refusal is about.
+fn path_of_text<'a>(source: &'a str, file: &'a str, error: &JobError) -> &'a str
+    ensures { result.now ≡ if in_text error.now then source.entry.now else file.entry.now }
+{
+    if is_of_text(error) { source } else { file }
+}
+
 // The path of the file that a refusal is about.
 fn path_at_fault<'a>(subject: &Subject<'a>, error: &JobError) -> &'a str
     ensures { result.now ≡ path_of_fault subject.now error.now }
@@ -31,10 +51,9 @@ fn path_at_fault<'a>(subject: &Subject<'a>, error: &JobError) -> &'a str
             Beside::Read(other),
             JobError::Command(CommandError::Peer(PeerError::Doc(DocError::OtherDocument))),
         ) => other,
-        (Beside::Text(source), JobError::Command(CommandError::NotText { .. })) => source,
-        (Beside::Text(source), JobError::Command(CommandError::NotQuiet)) => source,
-        (Beside::Text(source), JobError::Command(CommandError::BothHaveText)) => source,
-        (Beside::Text(source), JobError::Command(CommandError::BadState)) => source,
+        (Beside::Text(source), error) => path_of_text(source, subject.file, error),
+        (Beside::Shared(source, _), error) => path_of_text(source, subject.file, error),
+        (Beside::Shown(source, _), error) => path_of_text(source, subject.file, error),
         (Beside::Made(out), JobError::Command(CommandError::Peer(PeerError::JournalNotEmpty))) => {
             out
         }
@@ -219,6 +238,14 @@ fn other_advice<D: Disk + AllocGlobal>(
         Beside::Streams => String::from_str(alloc, OTHER_SIDE),
         Beside::Here(addr) => format!(in alloc; "{addr}: it can't be listened on any more"),
         Beside::There(addr) => format!(in alloc; "{addr}: the session was broken off"),
+        Beside::Shared(source, addr) => match rt.cause(source) {
+            Some(cause) => of_path(alloc, source, of_cause(cause)),
+            None => format!(in alloc; "{addr}: the exchange there was broken off"),
+        },
+        Beside::Shown(source, hosting) => match rt.cause(source) {
+            Some(cause) => of_path(alloc, source, of_cause(cause)),
+            None => page_advice(alloc, &hosting, "it can't be listened on any more"),
+        },
         Beside::Page(hosting) => page_advice(alloc, &hosting, "it can't be listened on any more"),
         _ => of_path(alloc, file, NO_OUTPUT),
     }
@@ -327,8 +354,10 @@ fn unreached_advice(
         Unreached::Other => "there is no way there",
     };
     match subject.beside {
-        Beside::Here(addr) | Beside::There(addr) => format!(in alloc; "{addr}: {text}"),
-        Beside::Page(hosting) => page_advice(alloc, &hosting, text),
+        Beside::Here(addr) | Beside::There(addr) | Beside::Shared(_, addr) => {
+            format!(in alloc; "{addr}: {text}")
+        }
+        Beside::Page(hosting) | Beside::Shown(_, hosting) => page_advice(alloc, &hosting, text),
         _ => String::from_str(alloc, text),
     }
 }

@@ -5,5 +5,6 @@ pub returns : goal.returns
 returns c =
     let with1 = argument_added _ _ _ c.take.result c.in_ok-arg.field-0 c.in_ok-pair_command.ensures c.take.ensures.rule c.take.ensures.local c.in_ok-arg.ensures in
     let with2 = argument_added _ _ _ c.every.result c.in_ok-arg-2.field-0 with1 c.every.ensures.rule c.every.ensures.local c.in_ok-arg-2.ensures in
-    let waits = argument_added _ _ _ c.wait.result c.in_ok-arg-3.field-0 with2 c.wait.ensures.rule c.wait.ensures.local c.in_ok-arg-3.ensures in
-    IfOk-map c.arg-4.result _ _ (λ r added. argument_added _ _ _ c.key.result r waits c.key.ensures.rule c.key.ensures.local added) c.arg-4.ensures
+    let with3 = argument_added _ _ _ c.server.result c.in_ok-arg-3.field-0 with2 c.server.ensures.rule c.server.ensures.local c.in_ok-arg-3.ensures in
+    let waits = argument_added _ _ _ c.wait.result c.in_ok-arg-4.field-0 with3 c.wait.ensures.rule c.wait.ensures.local c.in_ok-arg-4.ensures in
+    IfOk-map c.arg-5.result _ _ (λ r added. argument_added _ _ _ c.key.result r waits c.key.ensures.rule c.key.ensures.local added) c.arg-5.ensures

@@ -7,5 +7,7 @@ returns c =
     let with2 = argument_added _ _ _ c.workers.result c.in_ok-arg-2.field-0 with1 c.workers.ensures.rule c.workers.ensures.local c.in_ok-arg-2.ensures in
     let with3 = argument_added _ _ _ c.patience.result c.in_ok-arg-3.field-0 with2 c.patience.ensures.rule c.patience.ensures.local c.in_ok-arg-3.ensures in
     let with4 = argument_added _ _ _ c.flag.result c.in_ok-arg-4.field-0 with3 c.flag.ensures.rule c.flag.ensures.local c.in_ok-arg-4.ensures in
-    let waits = argument_added _ _ _ c.wait.result c.in_ok-arg-5.field-0 with4 c.wait.ensures.rule c.wait.ensures.local c.in_ok-arg-5.ensures in
-    IfOk-map c.arg-6.result _ _ (λ r added. argument_added _ _ _ c.key.result r waits c.key.ensures.rule c.key.ensures.local added) c.arg-6.ensures
+    let with5 = argument_added _ _ _ c.note_beside.result c.in_ok-arg-5.field-0 with4 c.note_beside.ensures.rule c.note_beside.ensures.local c.in_ok-arg-5.ensures in
+    let with6 = argument_added _ _ _ c.take.result c.in_ok-arg-6.field-0 with5 c.take.ensures.rule c.take.ensures.local c.in_ok-arg-6.ensures in
+    let waits = argument_added _ _ _ c.wait.result c.in_ok-arg-7.field-0 with6 c.wait.ensures.rule c.wait.ensures.local c.in_ok-arg-7.ensures in
+    IfOk-map c.arg-8.result _ _ (λ r added. argument_added _ _ _ c.key.result r waits c.key.ensures.rule c.key.ensures.local added) c.arg-8.ensures

@@ -1,12 +1,18 @@
-use Rattle.std.proofs.Common.{inr}
-use Rattle.tp_online.proofs.FollowLaws.{reports_more, reports_once}
+use Rattle.tp_online.specs.Showing.{ShowsJournal}
+use Rattle.tp_online.specs.Watching.{note_of}
+use Rattle.tp_online.proofs.BesideLaws.{note_given, with_note}
+use Rattle.tp_online.proofs.FollowLaws.{reports_more}
 use Rattle.tp_online.proofs.paging.web_file.Goals as goal
 
--- what was cut off was said as it began, and then each time that it was opened anew
+-- what was cut off was said at the first turn with the text file, and then as it was shown
 pub returns-in-Ok-clause-early : goal.returns-in-Ok-clause-early
 returns-in-Ok-clause-early g c =
+    reports_more (g.R.Folders.saw c.args.rt.now) c.args.file.now (g.E.Write.contents c.args.err.now) (g.E.Write.contents c.prepare.new.err) (g.E.Write.contents c.show_source.new.err)
+    c.prepare.ensures.early c.show_source.ensures.early
+
+-- the text file is the one that was asked for
+pub returns-in-Ok-clause-shown : goal.returns-in-Ok-clause-shown
+returns-in-Ok-clause-shown g c =
     let saw = g.R.Folders.saw c.args.rt.now in
-    let file = c.args.file.now in
-    reports_more saw file (g.E.Write.contents c.args.err.now) (g.E.Write.contents c.report.new.err) (g.E.Write.contents c.show_at.new.err)
-    (reports_once saw file (g.E.Write.contents c.args.err.now) (g.E.Write.contents c.report.new.err) c.listen.new.cut (inr c.in-Ok.ensures.cuts) c.report.ensures)
-    c.show_at.ensures.early
+    with_note saw c.args.file.now _ (note_of c.mirrored_at.result) (λ note bytes p. ShowsJournal saw note c.args.hosting c.args.key bytes p) c.show_source.result
+    (note_given c.mirrored_at.result c.in-Ok.paths c.args.noted.now c.mirrored_at.ensures c.in-Ok.ensures.some) c.show_source.ensures.shown
