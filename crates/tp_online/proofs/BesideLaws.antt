@@ -10,7 +10,6 @@ use Rattle.tp_served.specs.Absences.{AbsenceState}
 use Rattle.tp_served.specs.Seats.{IsKeptIn, SeatKnowledge, SeatState, Visits, gave, missed_by, took}
 use Rattle.tp_served.specs.Steps.{StepsAsSeat}
 use Rattle.tp_served.proofs.TokenLaws.{turn_visits}
-use Rattle.tp_mirroring.specs.declared.paths.Paths.{Paths}
 use Rattle.tp_online.specs.declared.mirrored.Mirrored.{Mirrored}
 use Rattle.tp_online.specs.declared.mirrored.Noted.{Noted}
 use Rattle.tp_online.specs.Watching.{IsMirrored, note_of}
@@ -43,8 +42,8 @@ note_there : (m : Option Mirrored) → is_some (note_of m) ≡ is_some m
 note_there None = refl
 note_there (Some m) = refl
 
-pub note_given : (m : Option Mirrored) (paths : Option Paths) (given : Option Noted) → is_some m ≡ is_some paths → is_some paths ≡ is_some given → is_some (note_of m) ≡ is_some given
-note_given m paths given at there = note_there m ∙ at ∙ there
+pub note_given : (m : Option Mirrored) (given : Option Noted) → is_some m ≡ is_some given → is_some (note_of m) ≡ is_some given
+note_given m given is = note_there m ∙ is
 
 pub with_note : {A E : Type 0} (saw : DiskView → Type 0) (file : List ℕ) (some : Bool) (note : Option (List ℕ)) (P : Option (List ℕ) → List ℕ → A → Type 0) (r : Result A E) → is_some note ≡ some
     → IfOk r (λ p. OfLocked saw file (λ bytes. P note bytes p)) → IfOk r (λ p. OfLocked saw file (λ bytes. (n : Option (List ℕ)) × (is_some n ≡ some) × P n bytes p))

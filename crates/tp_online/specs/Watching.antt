@@ -12,7 +12,7 @@ use Rattle.tp_served.specs.Seats.{SeatKnowledge, SeatState, Visits}
 -- where the text file is that is kept beside a served peer, where one is
 abbrev pub note_of : Option Mirrored → Option (List ℕ)
 note_of None = None
-note_of (Some m) = Some (string_bytes m.paths.now.note)
+note_of (Some m) = Some (string_bytes m.paths.note)
 
 -- The peer's journal was settled: the peer stayed, or it has stopped since its device failed.
 abbrev pub IsLookedAt : PeerState → PeerState → Type 0

@@ -49,8 +49,17 @@ fn begin<R: Disk + Clock + AllocGlobal>(
     Ok(paths)
 }
 
-/// Brings the journal and the text file in step for the first time, where one is to be kept beside it: where it and what a mirror needs
-/// are. What was cut off the journal is said.
+/// A text file that is kept in step with the journal of a served peer.
+#[derive(Drop)]
+pub(crate) struct Mirrored {
+    /// Where the journal is, and it.
+    pub paths: Paths,
+    /// Which text counts at the first use, where the two have different ones; if that is said.
+    pub take: Option<Take>,
+}
+
+/// Brings the journal and the text file in step for the first time, where one is to be kept beside it. What was cut off the journal is
+/// said.
 pub(crate) fn prepare<R: Disk + Clock + AllocGlobal, E: Write>(
     rt: &R,
     file: &str,
@@ -59,9 +68,9 @@ pub(crate) fn prepare<R: Disk + Clock + AllocGlobal, E: Write>(
     wait: u64,
     err: &mut E,
     cut: &mut Option<u64>,
-) -> Result<Option<Paths>, JobError>
+) -> Result<Option<Mirrored>, JobError>
     requires { cut.old ≡ None }
-    ensures some { IfOk result (λ paths. is_some paths ≡ is_some noted.now) }
+    ensures some { IfOk result (λ mirrored. is_some mirrored ≡ is_some noted.now) }
     ensures cuts { OnOk result (cut.new ≡ None) }
     ensures may_cut { OnErr result (MayCutFile (R.saw rt.now) file.now cut.new) }
     ensures early { (cuts : List (Option ℕ)) × ReportsEach (R.saw rt.now) file.now cuts
@@ -73,45 +82,18 @@ pub(crate) fn prepare<R: Disk + Clock + AllocGlobal, E: Write>(
             Ok(paths) => {
                 report(rt.alloc(), file, *cut, None, err);
                 *cut = None;
-                Ok(Some(paths))
+                Ok(Some(Mirrored {
+                    paths,
+                    take: noted.take,
+                }))
             }
             Err(error) => Err(JobError::Command(error)),
         },
     }
 }
 
-/// A text file that is kept in step with the journal of a served peer.
-#[derive(Clone, Copy)]
-pub(crate) struct Mirrored<'a> {
-    /// Where the journal is, and it.
-    pub paths: &'a Paths,
-    /// Which text counts at the first use, where the two have different ones; if that is said.
-    pub take: Option<Take>,
-}
-
-/// The text file at the paths, where one is to be kept.
-pub(crate) fn mirrored_at<'a>(
-    paths: &'a Option<Paths>,
-    noted: &Option<Noted<'_>>,
-) -> Option<Mirrored<'a>>
-    ensures { is_some result ≡ is_some paths.now }
-{
-    match paths {
-        None => None,
-        Some(paths) => Some(Mirrored {
-            paths,
-            take: noted.and_then(|n| n.take),
-        }),
-    }
-}
-
 // Whether there is something to do, as far as can be seen.
-fn comes_due<R: Disk + AllocGlobal>(
-    rt: &R,
-    paths: &Paths,
-    turns: &mut Turns,
-    every: u64,
-) -> bool {
+fn comes_due<R: Disk + AllocGlobal>(rt: &R, paths: &Paths, turns: &mut Turns, every: u64) -> bool {
     let Ok(seen) = look(rt, paths, &turns.left) else {
         return false;
     };
@@ -127,10 +109,10 @@ fn comes_due<R: Disk + AllocGlobal>(
 // Brings a peer in step with the text file, where it runs. How that ended.
 fn turn_if_running<R: Disk + Clock + AllocGlobal, J: Journal>(
     rt: &R,
-    mirrored: &Mirrored<'_>,
+    mirrored: &Mirrored,
     peer: Peer<J>,
 ) -> (Peer<J>, Option<Result<Vec<Name>, CommandError>>)
-    ensures { IsMirrored (R.saw rt.now) (string_bytes mirrored.now.paths.now.note) peer result.0 }
+    ensures { IsMirrored (R.saw rt.now) (string_bytes mirrored.now.paths.note) peer result.0 }
 {
     if peer.is_stopped() {
         return (peer, None);
@@ -138,7 +120,7 @@ fn turn_if_running<R: Disk + Clock + AllocGlobal, J: Journal>(
     match generator(rt, None) {
         Ok(random) => {
             let mut random = random;
-            let (peer, done) = turn_on(rt, mirrored.paths, peer, mirrored.take, &mut random);
+            let (peer, done) = turn_on(rt, &mirrored.paths, peer, mirrored.take, &mut random);
             (peer, Some(done))
         }
         Err(error) => (peer, Some(Err(error))),
@@ -175,7 +157,7 @@ fn note_end<R: Eprint + AllocGlobal>(
 /// seen. A refusal is said once on the standard error of the runtime, and tried again as often as this is called.
 pub(crate) fn turn_beside<R: Disk + Wait + Clock + Eprint + AllocGlobal, J: Journal>(
     rt: &R,
-    mirrored: &Mirrored<'_>,
+    mirrored: &Mirrored,
     turns: &mut Turns,
     served: &Served<J>,
     seat: Seat,
@@ -183,9 +165,9 @@ pub(crate) fn turn_beside<R: Disk + Wait + Clock + Eprint + AllocGlobal, J: Jour
     requires { seat.served ≡ served.now.served }
     ensures served { result.served ≡ served.now.served }
     ensures turned { (result ≡ seat) ⊎ Visits seat.state
-        (IsMirrored (R.saw rt.now) (string_bytes mirrored.now.paths.now.note)) result.state }
+        (IsMirrored (R.saw rt.now) (string_bytes mirrored.now.paths.note)) result.state }
 {
-    if !comes_due(rt, mirrored.paths, turns, 1) {
+    if !comes_due(rt, &mirrored.paths, turns, 1) {
         return seat;
     }
     let (absence, peer) = served.begin_turn(rt, seat);

@@ -16,7 +16,7 @@ ghost use Rattle.tp_textpeer.specs.Output.{AppendsPart};
 use crate::accepting::{KEPT, Teller, WEB_PLACES};
 use crate::hosting::{Server, ServerAt, Stage, take_part};
 use crate::listening::{Listening, STOPPED, Source, bind, listen, open_anew};
-use crate::mirrored::{Mirrored, Noted, mirrored_at, prepare};
+use crate::mirrored::{Mirrored, Noted, prepare};
 use crate::seating::{Seated, end_watched, seat_watched};
 use crate::serving::listening_line;
 use crate::watching::{Closable, Door, Doors, Ending, watch};
@@ -242,7 +242,7 @@ fn show_watched<
     listeners: Listeners<'_, L>,
     hosting: &Hosting<'x>,
     ending: &'x Ending,
-    mirrored: &Option<Mirrored<'_>>,
+    mirrored: &Option<Mirrored>,
     served: &Served<J>,
     seats: Vec<Seat>,
     seat: Seat,
@@ -311,7 +311,7 @@ fn show_counted<
     site: &Site,
     hosting: &Hosting<'_>,
     ending: &Ending,
-    mirrored: &Option<Mirrored<'_>>,
+    mirrored: &Option<Mirrored>,
     served: &Served<J>,
     seats: Vec<Seat>,
     seat: Seat,
@@ -337,7 +337,9 @@ where
 {
     let places = Places::<K>::new(blank, WEB_PLACES);
     let listeners = listeners_on(rt, bound, site, &places);
-    show_watched(rt, listeners, hosting, ending, mirrored, served, seats, seat, key)
+    show_watched(
+        rt, listeners, hosting, ending, mirrored, served, seats, seat, key,
+    )
 }
 
 // Shows the peer, on as many seats as there may be, and ends that with those that came back: the peer that the closing gives. One
@@ -352,7 +354,7 @@ fn show_peer<
     secret: Secret,
     key: [u8; 32],
     ending: &Ending,
-    mirrored: &Option<Mirrored<'_>>,
+    mirrored: &Option<Mirrored>,
     peer: Peer<DurableJournal<F>>,
 ) -> Result<Peer<DurableJournal<F>>, JobError>
 where
@@ -405,7 +407,7 @@ where
 fn show_all<R: Disk + Net + Threads + Wait + Clock + Eprint + AllocGlobal + Sync, E: Write>(
     rt: &R,
     source: &Source<'_>,
-    mirrored: &Option<Mirrored<'_>>,
+    mirrored: &Option<Mirrored>,
     bound: &Bound<R::Listener>,
     hosting: &Hosting<'_>,
     secret: Secret,
@@ -454,7 +456,7 @@ fn show_at<
 >(
     rt: &R,
     source: &Source<'_>,
-    mirrored: &Option<Mirrored<'_>>,
+    mirrored: &Option<Mirrored>,
     listening: Listening<R::Listener, R::File>,
     hosting: &Hosting<'_>,
     secret: Secret,
@@ -492,7 +494,9 @@ where
                 sessions,
             };
             match tell_page(rt.alloc(), page, &secret.key, beside, out) {
-                Ok(()) => show_all(rt, source, mirrored, &bound, hosting, secret, key, peer, err),
+                Ok(()) => show_all(
+                    rt, source, mirrored, &bound, hosting, secret, key, peer, err,
+                ),
                 Err(error) => {
                     drop(peer);
                     Err(error)
@@ -514,7 +518,7 @@ fn show_source<
 >(
     rt: &R,
     source: &Source<'_>,
-    mirrored: &Option<Mirrored<'_>>,
+    mirrored: &Option<Mirrored>,
     hosting: &Hosting<'_>,
     out: &mut W,
     err: &mut E,
@@ -543,7 +547,9 @@ where
         Ok(listening) => {
             report(rt.alloc(), source.file, *cut, None, err);
             *cut = None;
-            show_at(rt, source, mirrored, listening, hosting, secret, windows, out, err)
+            show_at(
+                rt, source, mirrored, listening, hosting, secret, windows, out, err,
+            )
         }
         Err(error) => Err(error),
     }
@@ -592,9 +598,8 @@ where
         ⊎ GrowsPart (IsPageShown hosting.entry) (W.contents out.old) (W.contents out.new)) }
 {
     match prepare(rt, file, noted, key, wait, err, cut) {
-        Ok(paths) => {
+        Ok(mirrored) => {
             let source = Source { file, key, wait };
-            let mirrored = mirrored_at(&paths, noted);
             show_source(rt, &source, &mirrored, &hosting, out, err, cut)
         }
         Err(error) => Err(error),

@@ -16,7 +16,7 @@ ghost use Rattle.tp_online.specs.Watching.{Watches, note_of};
 
 use crate::accepting::{SERVE_PLACES, Teller};
 use crate::listening::{Listening, STOPPED, Source, listen, open_anew, open_peer};
-use crate::mirrored::{Mirrored, Noted, mirrored_at, prepare};
+use crate::mirrored::{Mirrored, Noted, prepare};
 use crate::seating::{Seated, end_watched, hold, seat_watched};
 use crate::watching::{Closable, Door, Doors, Ending, watch};
 use crossbeam_channel::Sender;
@@ -167,7 +167,7 @@ fn hold_watched<
     rt: &R,
     listener: L,
     holding: &Holding<'_, M>,
-    mirrored: &Option<Mirrored<'_>>,
+    mirrored: &Option<Mirrored>,
     served: &Served<J>,
     seats: Vec<Seat>,
     seat: Seat,
@@ -221,7 +221,7 @@ fn hold_counted<
 >(
     rt: &R,
     holding: &Holding<'_, R::Listener>,
-    mirrored: &Option<Mirrored<'_>>,
+    mirrored: &Option<Mirrored>,
     served: &Served<J>,
     seats: Vec<Seat>,
     seat: Seat,
@@ -267,7 +267,7 @@ fn hold_sessions<
 >(
     rt: &R,
     holding: &Holding<'_, R::Listener>,
-    mirrored: &Option<Mirrored<'_>>,
+    mirrored: &Option<Mirrored>,
     peer: Peer<DurableJournal<F>>,
 ) -> Result<Peer<DurableJournal<F>>, JobError>
 where
@@ -311,7 +311,7 @@ where
 fn hold_all<R: Disk + Net + Threads + Wait + Clock + Eprint + AllocGlobal + Sync, E: Write>(
     rt: &R,
     source: &Source<'_>,
-    mirrored: &Option<Mirrored<'_>>,
+    mirrored: &Option<Mirrored>,
     listener: &R::Listener,
     how: &Serving,
     peer: Peer<DurableJournal<R::File>>,
@@ -364,7 +364,7 @@ fn hold_and_report<
 >(
     rt: &R,
     source: &Source<'_>,
-    mirrored: &Option<Mirrored<'_>>,
+    mirrored: &Option<Mirrored>,
     listening: Listening<R::Listener, R::File>,
     how: &Serving,
     out: &mut W,
@@ -412,7 +412,7 @@ fn serve_on<
 >(
     rt: &R,
     source: &Source<'_>,
-    mirrored: &Option<Mirrored<'_>>,
+    mirrored: &Option<Mirrored>,
     listening: Listening<R::Listener, R::File>,
     how: &Serving,
     out: &mut W,
@@ -451,7 +451,7 @@ fn serve_source<
 >(
     rt: &R,
     source: &Source<'_>,
-    mirrored: &Option<Mirrored<'_>>,
+    mirrored: &Option<Mirrored>,
     addr: Address,
     how: &Serving,
     out: &mut W,
@@ -530,13 +530,12 @@ where
         ⊎ GrowsPart (IsServeOutput how.now.sessions) (W.contents out.old) (W.contents out.new)) }
 {
     match prepare(rt, file, noted, key, how.wait, err, cut) {
-        Ok(paths) => {
+        Ok(mirrored) => {
             let source = Source {
                 file,
                 key,
                 wait: how.wait,
             };
-            let mirrored = mirrored_at(&paths, noted);
             serve_source(rt, &source, &mirrored, addr, how, out, err, cut)
         }
         Err(error) => Err(error),

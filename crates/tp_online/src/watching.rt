@@ -211,7 +211,7 @@ fn keep_watch<R: Disk + Net + Wait + Clock + Eprint + AllocGlobal, J: Journal>(
     ending: &Ending,
     doors: Doors,
     serving: &Receiver<()>,
-    mirrored: &Option<Mirrored<'_>>,
+    mirrored: &Option<Mirrored>,
     served: &Served<J>,
     seat: Seat,
 ) -> Seat
@@ -236,7 +236,7 @@ fn keep_watch<R: Disk + Net + Wait + Clock + Eprint + AllocGlobal, J: Journal>(
 // The seat after a turn with the text file that is kept beside the served peer, where one is.
 fn turn_of<R: Disk + Wait + Clock + Eprint + AllocGlobal, J: Journal>(
     rt: &R,
-    mirrored: &Option<Mirrored<'_>>,
+    mirrored: &Option<Mirrored>,
     turns: &mut Turns,
     served: &Served<J>,
     seat: Seat,
@@ -259,7 +259,7 @@ pub(crate) fn watch<R: Disk + Net + Wait + Clock + Eprint + AllocGlobal, J: Jour
     ending: &Ending,
     doors: Doors,
     serving: Receiver<()>,
-    mirrored: &Option<Mirrored<'_>>,
+    mirrored: &Option<Mirrored>,
     served: &Served<J>,
     seat: Seat,
 ) -> Seat

@@ -14,5 +14,5 @@ returns-in-Ok-clause-early g c =
 pub returns-in-Ok-clause-shown : goal.returns-in-Ok-clause-shown
 returns-in-Ok-clause-shown g c =
     let saw = g.R.Folders.saw c.args.rt.now in
-    with_note saw c.args.file.now _ (note_of c.mirrored_at.result) (λ note bytes p. ShowsJournal saw note c.args.hosting c.args.key bytes p) c.show_source.result
-    (note_given c.mirrored_at.result c.in-Ok.paths c.args.noted.now c.mirrored_at.ensures c.in-Ok.ensures.some) c.show_source.ensures.shown
+    with_note saw c.args.file.now _ (note_of c.in-Ok.mirrored) (λ note bytes p. ShowsJournal saw note c.args.hosting c.args.key bytes p) c.show_source.result
+    (note_given c.in-Ok.mirrored c.args.noted.now c.in-Ok.ensures.some) c.show_source.ensures.shown

@@ -14,5 +14,5 @@ returns-in-Ok-clause-early g c =
 pub returns-in-Ok-clause-served : goal.returns-in-Ok-clause-served
 returns-in-Ok-clause-served g c =
     let saw = g.R.Folders.saw c.args.rt.now in
-    with_note saw c.args.file.now _ (note_of c.mirrored_at.result) (λ note bytes p. ServesJournal saw note c.args.key bytes c.args.how.now.workers p) c.serve_source.result
-    (note_given c.mirrored_at.result c.in-Ok.paths c.args.noted.now c.mirrored_at.ensures c.in-Ok.ensures.some) c.serve_source.ensures.served
+    with_note saw c.args.file.now _ (note_of c.in-Ok.mirrored) (λ note bytes p. ServesJournal saw note c.args.key bytes c.args.how.now.workers p) c.serve_source.result
+    (note_given c.in-Ok.mirrored c.args.noted.now c.in-Ok.ensures.some) c.serve_source.ensures.served

@@ -1,4 +1,0 @@
-use Rattle.tp_online.proofs.serving.hold_watched.Goals as goal
-
-pub returns-in-Ok-clause-watches : goal.returns-in-Ok-clause-watches
-returns-in-Ok-clause-watches g c = c.join-watched.ensures.first
