@@ -8,13 +8,13 @@ use Rattle.tp_program.specs.Output.{MayCutForJob}
 -- nothing may be said of any
 never : (saw : DiskView → Type 0) (job : Job) → MayCutForJob saw job None
 never saw (Files job) = inl refl
-never saw (Serve file addr sessions workers patience is_verbose note take key) = inl refl
+never saw (Serve file addr sessions workers patience is_verbose text take key) = inl refl
 never saw (Session file is_client key) = inl refl
 never saw (Sync file addr patience key) = inl refl
 never saw (Follow file addr every sessions patience key) = inl refl
 never saw (Keep file note take every key) = inl refl
 never saw (Share file note take addr every sessions patience key) = inl refl
-never saw (Web file hosting note take key) = inl refl
+never saw (Web file hosting text take key) = inl refl
 
 -- nothing, or what may be said
 pub said_or_not : (saw : DiskView → Type 0) (job : Job) (cut off : Option ℕ) → MayCutForJob saw job cut → (off ≡ None) ⊎ (off ≡ cut) → MayCutForJob saw job off

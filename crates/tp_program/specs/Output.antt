@@ -91,13 +91,13 @@ IsFilesPrinted saw (Simulate script) printed = IsScriptPrinted printed
 -- port of sessions beside it. A mirror that goes on is never done.
 abbrev pub IsJobOutput : (DiskView → Type 0) → Job → List ℕ → Type 0
 IsJobOutput saw (Files job) printed = IsFilesPrinted saw job printed
-IsJobOutput saw (Serve file addr sessions workers patience is_verbose note take key) printed = IsServeOutput sessions printed
+IsJobOutput saw (Serve file addr sessions workers patience is_verbose text take key) printed = IsServeOutput sessions printed
 IsJobOutput saw (Session file is_client key) printed = AreFrames printed
 IsJobOutput saw (Sync file addr patience key) printed = IsSynced printed
 IsJobOutput saw (Follow file addr every sessions patience key) printed = IsFollowed saw file.now key sessions printed
 IsJobOutput saw (Keep file note take every key) printed = ⊥
 IsJobOutput saw (Share file note take addr every sessions patience key) printed = IsFollowed saw file.now key sessions printed
-IsJobOutput saw (Web file hosting note take key) printed = IsPageShown hosting printed
+IsJobOutput saw (Web file hosting text take key) printed = IsPageShown hosting printed
 
 -- What the error stream says of the job, where bytes were cut off the journal that it opened: from which offset on.
 abbrev pub CutsFor : (DiskView → Type 0) → FileJob → Option ℕ → Type 0
@@ -115,34 +115,34 @@ MayCutFor saw job cut = (cut ≡ None) ⊎ CutsFor saw job cut
 -- they served, and one that follows after each session
 abbrev pub CutsForJob : (DiskView → Type 0) → Job → Option ℕ → Type 0
 CutsForJob saw (Files job) cut = CutsFor saw job cut
-CutsForJob saw (Serve file addr sessions workers patience is_verbose note take key) cut = cut ≡ None
+CutsForJob saw (Serve file addr sessions workers patience is_verbose text take key) cut = cut ≡ None
 CutsForJob saw (Session file is_client key) cut = CutsFile saw file.now cut
 CutsForJob saw (Sync file addr patience key) cut = CutsFile saw file.now cut
 CutsForJob saw (Follow file addr every sessions patience key) cut = cut ≡ None
 CutsForJob saw (Keep file note take every key) cut = ⊥
 CutsForJob saw (Share file note take addr every sessions patience key) cut = cut ≡ None
-CutsForJob saw (Web file hosting note take key) cut = cut ≡ None
+CutsForJob saw (Web file hosting text take key) cut = cut ≡ None
 
 abbrev pub MayCutForJob : (DiskView → Type 0) → Job → Option ℕ → Type 0
 MayCutForJob saw (Files job) cut = MayCutFor saw job cut
-MayCutForJob saw (Serve file addr sessions workers patience is_verbose note take key) cut = MayCutFile saw file.now cut
+MayCutForJob saw (Serve file addr sessions workers patience is_verbose text take key) cut = MayCutFile saw file.now cut
 MayCutForJob saw (Session file is_client key) cut = MayCutFile saw file.now cut
 MayCutForJob saw (Sync file addr patience key) cut = MayCutFile saw file.now cut
 MayCutForJob saw (Follow file addr every sessions patience key) cut = MayCutFile saw file.now cut
 MayCutForJob saw (Keep file note take every key) cut = MayCutFile saw file.now cut
 MayCutForJob saw (Share file note take addr every sessions patience key) cut = MayCutFile saw file.now cut
-MayCutForJob saw (Web file hosting note take key) cut = MayCutFile saw file.now cut
+MayCutForJob saw (Web file hosting text take key) cut = MayCutFile saw file.now cut
 
 -- What the error stream says of the job where it was done: of `session` how many changes entered.
 abbrev pub ReportsApplied : Job → Option ℕ → Type 0
 ReportsApplied (Files job) reported = reported ≡ None
-ReportsApplied (Serve file addr sessions workers patience is_verbose note take key) reported = reported ≡ None
+ReportsApplied (Serve file addr sessions workers patience is_verbose text take key) reported = reported ≡ None
 ReportsApplied (Session file is_client key) reported = (applied : ℕ) × (reported ≡ Some applied)
 ReportsApplied (Sync file addr patience key) reported = reported ≡ None
 ReportsApplied (Follow file addr every sessions patience key) reported = reported ≡ None
 ReportsApplied (Keep file note take every key) reported = reported ≡ None
 ReportsApplied (Share file note take addr every sessions patience key) reported = reported ≡ None
-ReportsApplied (Web file hosting note take key) reported = reported ≡ None
+ReportsApplied (Web file hosting text take key) reported = reported ≡ None
 
 -- the side that a session is held as
 abbrev pub side_of : Bool → Role
@@ -158,9 +158,9 @@ WasHeld saw job reported = Unit {0}
 -- journal was opened; of one that follows, what was cut off, after each session; of a mirror that goes on, what was cut off, and why a
 -- turn was refused.
 abbrev pub ReportsEarly : (DiskView → Type 0) → Job → Option (List ℕ) → Option (List ℕ) → Type 0
-ReportsEarly saw (Serve file addr sessions workers patience is_verbose note take key) before after =
+ReportsEarly saw (Serve file addr sessions workers patience is_verbose text take key) before after =
     (cuts : List (Option ℕ)) × ReportsEach saw file.now cuts before after
-ReportsEarly saw (Web file hosting note take key) before after =
+ReportsEarly saw (Web file hosting text take key) before after =
     (cuts : List (Option ℕ)) × ReportsEach saw file.now cuts before after
 ReportsEarly saw (Keep file note take every key) before after = (turns : List MirrorTurn) × TellsTurns saw file.now turns before after
 ReportsEarly saw (Share file note take addr every sessions patience key) before after =
@@ -200,9 +200,9 @@ RefusesFilesOutput saw job before e after = RefusesPrinting (IsFilesPrinted saw 
 -- before.
 abbrev pub RefusesOutput : (DiskView → Type 0) → Job → Option (List ℕ) → JobError → Option (List ℕ) → Type 0
 RefusesOutput saw (Files job) before e after = RefusesFilesOutput saw job before e after
-RefusesOutput saw (Serve file addr sessions workers patience is_verbose note take key) before e after = Keeps before after ⊎ GrowsPart (IsServeOutput sessions) before after
+RefusesOutput saw (Serve file addr sessions workers patience is_verbose text take key) before e after = Keeps before after ⊎ GrowsPart (IsServeOutput sessions) before after
 RefusesOutput saw (Keep file note take every key) before e after = Keeps before after
-RefusesOutput saw (Web file hosting note take key) before e after = Keeps before after ⊎ GrowsPart (IsPageShown hosting) before after
+RefusesOutput saw (Web file hosting text take key) before e after = Keeps before after ⊎ GrowsPart (IsPageShown hosting) before after
 RefusesOutput saw (Session file is_client key) before e after = Keeps before after ⊎ ((e ≡ io_failure) ⊎ GrowsBy AreFrames before after)
 RefusesOutput saw (Sync file addr patience key) before e after = RefusesPrinting IsSynced before e after
 RefusesOutput saw (Follow file addr every sessions patience key) before e after =
