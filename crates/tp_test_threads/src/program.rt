@@ -190,6 +190,7 @@ fn sync_both<R: Disk + Net + Threads + Wait + Clock + Eprint + AllocGlobal + Syn
 ) -> (Ran, Ran)
 where
     R::File: Send,
+    R::New: Send,
     R::Listener: Sync,
     R::Stream: Send,
 {

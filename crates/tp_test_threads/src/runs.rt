@@ -53,6 +53,7 @@ pub fn run<R: Disk + Net + Threads + Wait + Clock + Eprint + AllocGlobal + Sync>
 ) -> Ran
 where
     R::File: Send,
+    R::New: Send,
     R::Listener: Sync,
     R::Stream: Send,
 {
@@ -77,6 +78,7 @@ pub fn run_over<
 >(rt: &R, words: &[&str], stream: S) -> Option<Ran>
 where
     R::File: Send,
+    R::New: Send,
     R::Listener: Sync,
     R::Stream: Send,
 {
@@ -108,6 +110,7 @@ pub fn insert<R: Disk + Net + Threads + Wait + Clock + Eprint + AllocGlobal + Sy
 ) -> Ran
 where
     R::File: Send,
+    R::New: Send,
     R::Listener: Sync,
     R::Stream: Send,
 {
@@ -143,6 +146,7 @@ pub fn begin<R: Disk + Net + Threads + Wait + Clock + Eprint + AllocGlobal + Syn
 ) -> bool
 where
     R::File: Send,
+    R::New: Send,
     R::Listener: Sync,
     R::Stream: Send,
 {
@@ -158,6 +162,7 @@ pub fn all_read<R: Disk + Net + Threads + Wait + Clock + Eprint + AllocGlobal + 
 ) -> bool
 where
     R::File: Send,
+    R::New: Send,
     R::Listener: Sync,
     R::Stream: Send,
 {
@@ -177,6 +182,7 @@ pub fn serve<R: Disk + Net + Threads + Wait + Clock + Eprint + AllocGlobal + Syn
 ) -> Ran
 where
     R::File: Send,
+    R::New: Send,
     R::Listener: Sync,
     R::Stream: Send,
 {
@@ -194,6 +200,7 @@ pub fn sync_once<R: Disk + Net + Threads + Wait + Clock + Eprint + AllocGlobal +
 ) -> Ran
 where
     R::File: Send,
+    R::New: Send,
     R::Listener: Sync,
     R::Stream: Send,
 {
@@ -209,6 +216,7 @@ pub fn follow<R: Disk + Net + Threads + Wait + Clock + Eprint + AllocGlobal + Sy
 ) -> Ran
 where
     R::File: Send,
+    R::New: Send,
     R::Listener: Sync,
     R::Stream: Send,
 {
@@ -233,6 +241,7 @@ pub fn sync<R: Disk + Net + Threads + Wait + Clock + Eprint + AllocGlobal + Sync
 ) -> Ran
 where
     R::File: Send,
+    R::New: Send,
     R::Listener: Sync,
     R::Stream: Send,
 {
@@ -255,6 +264,7 @@ pub fn sync_beside_silence<R: Disk + Net + Threads + Wait + Clock + Eprint + All
 ) -> Option<(bool, Ran)>
 where
     R::File: Send,
+    R::New: Send,
     R::Listener: Sync,
     R::Stream: Send,
 {
