@@ -27,7 +27,7 @@ _textpeer() {
     edit) values=(file) options='--at --del --text --text-file --time --message --wait --key --explain -h --help' takes='--at --del --text --text-file --time --message --wait --key' ;;
     update) values=(file file) options='--time --message --wait --key --since --explain -h --help' takes='--time --message --wait --key --since' ;;
     import) values=(file file) options='--time --message --wait --key --explain -h --help' takes='--time --message --wait --key' ;;
-    mirror) values=(file file) options='--take --every --wait --key --explain -h --help' takes='--take --wait --key' ;;
+    mirror) values=(file file) options='--take --every --follow --wait --key --explain -h --help' takes='--take --follow --wait --key' ;;
     text) values=(file hash) rest=hash options='--raw --explain -h --help' ;;
     heads) values=(file) options='--explain -h --help' ;;
     log) values=(file) options='--pretty --most --explain -h --help' takes='--most' ;;
@@ -42,10 +42,10 @@ _textpeer() {
     recover) values=(file file) options='--with --texts --explain -h --help' takes='--with' ;;
     show) values=(file) options='--explain -h --help' ;;
     simulate) values=(file) options='--explain -h --help' ;;
-    serve) values=(file other) options='--sessions --workers --patience --verbose --wait --key --explain -h --help' takes='--sessions --workers --patience --wait --key' ;;
-    sync) values=(file other) options='--follow --sessions --patience --wait --key --explain -h --help' takes='--sessions --patience --wait --key' ;;
+    serve) values=(file other) options='--sessions --workers --patience --verbose --mirror --take --wait --key --explain -h --help' takes='--sessions --workers --patience --mirror --take --wait --key' ;;
+    sync) values=(file other) options='--follow --sessions --patience --mirror --take --wait --key --explain -h --help' takes='--sessions --patience --mirror --take --wait --key' ;;
     session) values=(file) options='--client --wait --key --explain -h --help' takes='--wait --key' ;;
-    web) values=(file other) options='--serve --follow --wait --key --explain -h --help' takes='--serve --follow --wait --key' ;;
+    web) values=(file other) options='--serve --follow --mirror --take --wait --key --explain -h --help' takes='--serve --follow --mirror --take --wait --key' ;;
     *) return ;;
     esac
     options=" $options "

@@ -11,7 +11,7 @@ function __textpeer_place
     set -l words (commandline -opc)[3..]
     set -l place 1
     while set -q words[1]
-        if contains -- $words[1] --at --del --follow --key --message --most --patience --serve --sessions --since --take --text --text-file --time --to --unified --wait --with --workers -U
+        if contains -- $words[1] --at --del --follow --key --message --mirror --most --patience --serve --sessions --since --take --text --text-file --time --to --unified --wait --with --workers -U
             set -e words[1]
             set -q words[1]; or set place 0
         else if not string match -q -- '-*' $words[1]
@@ -73,6 +73,7 @@ complete -c textpeer -n '__textpeer_does mirror; and test (__textpeer_place) -eq
 complete -c textpeer -n '__textpeer_does mirror; and test (__textpeer_place) -eq 2' -F
 complete -c textpeer -n '__textpeer_does mirror; and not __fish_contains_opt take' -l take -x -d 'which text counts at the first use, where the two differ: text, and the journal'\''s stays in its history; or journal, and NOTE'\''s is kept as NOTE.before'
 complete -c textpeer -n '__textpeer_does mirror; and not __fish_contains_opt every' -l every -d 'goes on, and looks again each SECONDS, 1 to 86400; each second if none are given'
+complete -c textpeer -n '__textpeer_does mirror; and not __fish_contains_opt follow' -l follow -x -d 'exchanges changes each second with the server at this address, as IP:PORT or HOST:PORT'
 complete -c textpeer -n '__textpeer_does mirror; and not __fish_contains_opt wait' -l wait -x -d 'how many seconds to wait for FILE'\''s lock where another program has it, up to 86400; not at all if 0 [default: 5]'
 complete -c textpeer -n '__textpeer_does mirror; and not __fish_contains_opt key' -l key -x -d 'the seed of the random numbers, in 64 hexadecimal digits; from /dev/urandom if left out. It encrypts nothing'
 complete -c textpeer -n '__textpeer_does mirror; and not __fish_contains_opt explain' -l explain -d 'adds below a refusal which file it is about and what to do; always on where the standard error is a terminal'
@@ -157,6 +158,8 @@ complete -c textpeer -n '__textpeer_does serve; and not __fish_contains_opt sess
 complete -c textpeer -n '__textpeer_does serve; and not __fish_contains_opt workers' -l workers -x -d 'how many sessions are held at once, 1 to 64; with 64 they are 63 [default: 2]'
 complete -c textpeer -n '__textpeer_does serve; and not __fish_contains_opt patience' -l patience -x -d 'how many seconds the other side may say nothing before its session ends, up to 86400; for ever if 0 [default: 30]'
 complete -c textpeer -n '__textpeer_does serve; and not __fish_contains_opt verbose' -l verbose -d 'prints a line on the standard error for each session as it ends'
+complete -c textpeer -n '__textpeer_does serve; and not __fish_contains_opt mirror' -l mirror -x -d 'keeps this text file and FILE in step meanwhile, as mirror does'
+complete -c textpeer -n '__textpeer_does serve; and not __fish_contains_opt take' -l take -x -d 'which text counts at the first use, where the two differ: text, and the journal'\''s stays in its history; or journal, and NOTE'\''s is kept as NOTE.before'
 complete -c textpeer -n '__textpeer_does serve; and not __fish_contains_opt wait' -l wait -x -d 'how many seconds to wait for FILE'\''s lock where another program has it, up to 86400; not at all if 0 [default: 5]'
 complete -c textpeer -n '__textpeer_does serve; and not __fish_contains_opt key' -l key -x -d 'the seed of the random numbers, in 64 hexadecimal digits; from /dev/urandom if left out. It encrypts nothing'
 complete -c textpeer -n '__textpeer_does serve; and not __fish_contains_opt explain' -l explain -d 'adds below a refusal which file it is about and what to do; always on where the standard error is a terminal'
@@ -166,6 +169,8 @@ complete -c textpeer -n '__textpeer_does sync; and test (__textpeer_place) -eq 1
 complete -c textpeer -n '__textpeer_does sync; and not __fish_contains_opt follow' -l follow -d 'goes on with one session after another, SECONDS apart, 1 to 86400; 5 if none are given'
 complete -c textpeer -n '__textpeer_does sync; and not __fish_contains_opt sessions' -l sessions -x -d 'with --follow: how many sessions are held; then it ends. If left out it goes on until it is ended'
 complete -c textpeer -n '__textpeer_does sync; and not __fish_contains_opt patience' -l patience -x -d 'how many seconds the other side may say nothing before its session ends, up to 86400; for ever if 0 [default: 30]'
+complete -c textpeer -n '__textpeer_does sync; and not __fish_contains_opt mirror' -l mirror -x -d 'goes on as with --follow, and brings this text file and FILE in step before each session, as mirror does'
+complete -c textpeer -n '__textpeer_does sync; and not __fish_contains_opt take' -l take -x -d 'which text counts at the first use, where the two differ: text, and the journal'\''s stays in its history; or journal, and NOTE'\''s is kept as NOTE.before'
 complete -c textpeer -n '__textpeer_does sync; and not __fish_contains_opt wait' -l wait -x -d 'how many seconds to wait for FILE'\''s lock where another program has it, up to 86400; not at all if 0 [default: 5]'
 complete -c textpeer -n '__textpeer_does sync; and not __fish_contains_opt key' -l key -x -d 'the seed of the random numbers, in 64 hexadecimal digits; from /dev/urandom if left out. It encrypts nothing'
 complete -c textpeer -n '__textpeer_does sync; and not __fish_contains_opt explain' -l explain -d 'adds below a refusal which file it is about and what to do; always on where the standard error is a terminal'
@@ -181,6 +186,8 @@ complete -c textpeer -n __fish_use_subcommand -a web -d 'Serves a journal as a w
 complete -c textpeer -n '__textpeer_does web; and test (__textpeer_place) -eq 1' -F
 complete -c textpeer -n '__textpeer_does web; and not __fish_contains_opt serve' -l serve -x -d 'serves the journal beside the page too, at this address, as IP:PORT or HOST:PORT, and prints the port'
 complete -c textpeer -n '__textpeer_does web; and not __fish_contains_opt follow' -l follow -x -d 'exchanges changes each second with the server at this address, as IP:PORT or HOST:PORT'
+complete -c textpeer -n '__textpeer_does web; and not __fish_contains_opt mirror' -l mirror -x -d 'keeps this text file and FILE in step meanwhile, as mirror does'
+complete -c textpeer -n '__textpeer_does web; and not __fish_contains_opt take' -l take -x -d 'which text counts at the first use, where the two differ: text, and the journal'\''s stays in its history; or journal, and NOTE'\''s is kept as NOTE.before'
 complete -c textpeer -n '__textpeer_does web; and not __fish_contains_opt wait' -l wait -x -d 'how many seconds to wait for FILE'\''s lock where another program has it, up to 86400; not at all if 0 [default: 5]'
 complete -c textpeer -n '__textpeer_does web; and not __fish_contains_opt key' -l key -x -d 'the seed of the random numbers, in 64 hexadecimal digits; from /dev/urandom if left out. It encrypts nothing'
 complete -c textpeer -n '__textpeer_does web; and not __fish_contains_opt explain' -l explain -d 'adds below a refusal which file it is about and what to do; always on where the standard error is a terminal'

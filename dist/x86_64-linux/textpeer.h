@@ -27,7 +27,7 @@ typedef struct tp_handle {
 #define TP_VERSION "0.1.0"
 
 /* The short hash of the commit that this is a release of; it is empty where it is none. */
-#define TP_COMMIT "8a22f8f5"
+#define TP_COMMIT "38937e4d"
 
 static inline const char *tp_version(void)
 {
