@@ -1,6 +1,7 @@
 -- Edits of an earlier text, each on the one before it.
-use Rattle.std.proofs.Common.{◌≡◌, ◌∙◌, ap, refl, sym, subst, ℕ, suc, ◌<◌, ◌≤◌, List, [], ◌∷◌, ◌++◌, length, Bool, true, false, Option, Some, None, Result, Ok, Err, arith, append_assoc, append-nil}
+use Rattle.std.proofs.Common.{◌≡◌, ◌∙◌, ap, refl, sym, subst, ℕ, suc, ◌+◌, ◌-◌, ◌<◌, ◌≤◌, List, [], ◌∷◌, ◌++◌, length, take, drop, Bool, true, false, Option, Some, None, Result, Ok, Err, inl, inr, arith, append_assoc, append-nil}
 use Rattle.std.specs.Prelude.{IsTrue, MatchBool, MatchResult}
+use Rattle.std.proofs.lemmas.List.{take-append-drop}
 use Rattle.tp_layout.specs.declared.parts.ChangeParts.{ChangeParts}
 use Rattle.tp_layout.specs.declared.limits.TheConstants.{MAX_OPS}
 use Rattle.tp_change.specs.ChangeHash.{hash_of}
@@ -23,9 +24,14 @@ use Rattle.tp_peer.specs.declared.editing_at.EditAtError.TheVariants as edit_at
 use Rattle.tp_peer.specs.declared.error.PeerError.TheVariants as peer
 use Rattle.tp_commands.specs.CommandError.{refusal_of_edit_at}
 use Rattle.tp_commands.specs.declared.error.CommandError.{CommandError}
-use Rattle.tp_commands.specs.Since.{AreEditsAt, MakesEditsAt, MakesNextAt, MakesTextAt, StopsEditsAt, UpdatesSince, heads_after}
+use Rattle.tp_commands.specs.declared.error.UpdateError.{UpdateError}
+use Rattle.tp_commands.specs.HalfWay.{stopping_place}
+use Rattle.tp_commands.specs.Since.{AreEditsAt, DoesFirstAt, IsNotRewrittenAt, LeavesOrDoes, MakesEditsAt, MakesNextAt, MakesTextAt, RefusesNextAt, StopsEditsAt, UpdatesSince, heads_after}
 use Rattle.tp_commands.specs.Updating.{IsFullBefore, hashes_of}
-use Rattle.tp_commands.proofs.Updates.{hashes-push, total_count-append}
+use Rattle.tp_commands.specs.Cutting.{AreStretchesCut}
+use Rattle.tp_diff.specs.Differences.{LeadAcross}
+use Rattle.tp_commands.proofs.HalfWayLaws.{left_at}
+use Rattle.tp_commands.proofs.Updates.{first_done, hashes-push, total_count-append}
 
 -- one more is where they leave off
 heads_after-push : (H : List Hash) (cs : List ChangeParts) (c : ChangeParts) → heads_after H (cs ++ c ∷ []) ≡ hash_of c ∷ []
@@ -108,23 +114,59 @@ makes_some_at q q' actor next time message on running some step =
     omega (arith, some, done.1.1)
 
 -- an edit that was refused
-pub stops_one_at : (q q' : PeerState) (actor : Actor) (next : List Splice) (time : ℕ) (message : List ℕ) (on hashes : List Hash) (error : EditAtError) → q.stopped ≡ false
-    → StepsAt q on (asking actor next time message) (Err error) q' → (e : CommandError) → e ≡ refusal_of_edit_at error
-    → (p : PeerState) (H : List Hash) (ss rest : List Splice) → MakesEditsAt p H actor ss rest time message on hashes q → StopsEditsAt p H actor time message e
-stops_one_at q q' actor next time message on hashes error running step e is p H ss rest before = record {
-  now = q;
-  made = before.made;
-  splices = ss;
-  rest = rest;
-  next = next;
-  edits = before.edits;
-  applied = before.applied;
-  error = error;
-  after = q';
-  refuses = subst (λ (hs : List Hash). RefusesEditAt q hs (asking actor next time message) error q') before.on_are
-      (steps_running q q' on (asking actor next time message) (Err error) running step);
-  is_error = is;
-}
+pub refuses_one_at : (q q' : PeerState) (on : List Hash) (asked : EditRequest) (error : EditAtError) (e : CommandError) → q.stopped ≡ false → StepsAt q on asked (Err error) q' → e ≡ refusal_of_edit_at error
+    → RefusesNextAt q on asked e
+refuses_one_at q q' on asked error e running step is = inr (error, q', steps_running q q' on asked (Err error) running step, is)
+
+-- it leaves the changes
+kept_at : (p p' : PeerState) (H : List Hash) (asked : EditRequest) (e : EditAtError) → RefusesEditAt p H asked e p' → p'.applied ≡ p.applied
+kept_at p p' H asked (edit_at.Unfit e) r = ap (λ (x : PeerState). x.applied) r.2.1
+kept_at p p' H asked (edit_at.Peer (peer.Doc e)) r = ap (λ (x : PeerState). x.applied) r.2
+kept_at p p' H asked (edit_at.Peer peer.OutOfMemory) r = ap (λ (x : PeerState). x.applied) r
+kept_at p p' H asked (edit_at.Peer peer.JournalFailed) r = ap (λ (x : PeerState). x.applied) r.2.1.left
+kept_at p p' H asked (edit_at.Peer _) r = absurd r.2
+
+pub leaves_at : (q q' : PeerState) (on : List Hash) (asked : EditRequest) (next : List Splice) (error : EditAtError) → q.stopped ≡ false → StepsAt q on asked (Err error) q' → LeavesOrDoes q on next q'
+leaves_at q q' on asked next error running step =
+    (on, inl (ap (λ (C : List ChangeParts). past C on) (kept_at q q' on asked error (steps_running q q' on asked (Err error) running step))))
+
+-- the edits of those before a place were made, and the next was refused
+pub stops_edits_at : (p q : PeerState) (H on : List Hash) (actor : Actor) (ss next : List Splice) (from time : ℕ) (message : List ℕ) (hashes : List Hash) (error : CommandError) (e : UpdateError)
+    → MakesEditsAt p H actor ss (drop from ss) time message on hashes q → e.error ≡ error → e.place ≡ stopping_place (take from ss) (drop from ss) → RefusesNextAt q on (asking actor next time message) error
+    → StopsEditsAt p H actor ss time message e
+stops_edits_at p q H on actor ss next from time message hashes error e made is place refused =
+    let asked : EditRequest = asking actor next time message in
+    record {
+      now = q;
+      made = made.made;
+      first = take from ss;
+      rest = drop from ss;
+      next = next;
+      parts = sym (take-append-drop from ss);
+      edits = made.edits;
+      applied = made.applied;
+      refuses = subst (λ (hs : List Hash). RefusesNextAt q hs asked e.error) made.on_are (subst (RefusesNextAt q on asked) (sym is) refused);
+      place_is = place;
+    }
+
+-- those before the place are done, and maybe the next too
+pub first_done_at : (C : List ChangeParts) (q after : PeerState) (on : List Hash) (ss : List Splice) (from len : ℕ) (place : Option ℕ) → from < length ss → place ≡ stopping_place (take from ss) (drop from ss)
+    → DoesSplices C (past q.applied on) (take from ss) → LeavesOrDoes q on (take (from + len - from) (drop from ss)) after → DoesFirstAt C after.applied ss place
+first_done_at C q after on ss from len place within is done left = (left.0, first_done C (past q.applied on) (past after.applied left.0) ss from len place within is done left.1)
+
+pub stops_text_at : (p after : PeerState) (H : List Hash) (actor : Actor) (old text : List ℕ) (ss : List Splice) (time : ℕ) (message : List ℕ) (e : UpdateError) → IsTrue (has_all p.applied H) → IsTextOf (past p.applied H) old
+    → LeadAcross MAX_OPS old text ss → AreStretchesCut old text ss → StopsEditsAt p H actor ss time message e → DoesFirstAt (past p.applied H) after.applied ss e.place → IsNotRewrittenAt p H actor text time message after e
+stops_text_at p after H actor old text ss time message e known was lead cut stops done = inr (inr (record {
+  known = known;
+  old = old;
+  was_text = was;
+  differences = ss;
+  leads = lead;
+  cut = cut;
+  stops = stops;
+  on = done.0;
+  left = left_at MAX_OPS (past p.applied H) (past after.applied done.0) old text ss e.place lead was done.1;
+}))
 
 -- ---- journals
 

@@ -1,29 +1,35 @@
 -- Edits of a peer, one after another.
-use Rattle.std.proofs.Common.{◌≡◌, ◌∙◌, ap, refl, sym, subst, ℕ, ◌+◌, ◌-◌, ◌<◌, ◌≤◌, zero, suc, List, [], ◌∷◌, ◌++◌, length, take, drop, Bool, true, false, nat_eq, Some, None, arith, append_assoc, append-nil}
-use Rattle.std.specs.Prelude.{MatchBool, not}
+use Rattle.std.proofs.Common.{◌≡◌, ◌∙◌, ap, refl, sym, subst, ℕ, ◌+◌, ◌-◌, ◌<◌, ◌≤◌, zero, suc, List, [], ◌∷◌, ◌++◌, length, take, drop, Bool, true, false, nat_eq, Option, Some, None, Result, Ok, Err, inl, inr, arith, append_assoc, append-nil}
+use Rattle.std.specs.Prelude.{◌⊎◌, IfErr, MatchBool, not}
 use Rattle.std.specs.List.{All}
 use Rattle.std.specs.Str.{chars}
 use Rattle.std.proofs.lemmas.Bool.{eqb-true}
-use Rattle.std.proofs.lemmas.List.{drop-drop, length-drop, nil_from_length, take-append-drop, take_all}
+use Rattle.std.proofs.lemmas.List.{drop-drop, drop-take, length-drop, nil_from_length, take-append-drop, take-take, take_all}
 use Rattle.std.proofs.lemmas.List.Elements.{All-cons, All-drop, All-head, All-nil}
 use Rattle.std.proofs.lemmas.Str.{chars-nil}
 use Rattle.tp_layout.specs.declared.parts.ChangeParts.{ChangeParts}
 use Rattle.tp_change.specs.ChangeHash.{hash_of}
 use Rattle.tp_layout.specs.declared.limits.TheConstants.{MAX_OPS}
-use Rattle.tp_diff.specs.Differences.{AreSpaced, start_after}
-use Rattle.tp_document.specs.Editing.{AsksNothing, DoesSplices, IsAcceptedEdit, asking}
+use Rattle.tp_diff.specs.Differences.{AreSpaced, LeadAcross, start_after}
+use Rattle.tp_document.specs.Editing.{AsksNothing, DoesSplices, EditRequest, IsAcceptedEdit, asking}
 use Rattle.tp_edit.specs.declared.splice.Splice.{Splice}
 use Rattle.tp_edit.specs.Splices.{all_spliced, count_of_splice, inserted_chars, splice_at, total_count}
 use Rattle.tp_recovery.specs.Layout.{journal}
 use Rattle.tp_opid.specs.declared.actor.Actor.{Actor}
 use Rattle.tp_opid.specs.declared.hash.Hash.{Hash}
 use Rattle.tp_peer.specs.Appending.{JournalState}
-use Rattle.tp_peer.specs.declared.error.PeerError.TheVariants.{Stopped}
+use Rattle.tp_peer.specs.declared.error.PeerError.{PeerError}
+use Rattle.tp_peer.specs.declared.error.PeerError.TheVariants.{Doc, JournalFailed, OutOfMemory, Stopped}
 use Rattle.tp_peer.specs.Opening.{Reopens}
 use Rattle.tp_peer.specs.PeerState.{HasJournal, PeerState, opened_peer}
-use Rattle.tp_peer.specs.PeerStep.{Edit, Made, PeerStep, Refused, Reply, Runs, peer_with_change}
+use Rattle.tp_peer.specs.PeerStep.{Edit, Made, PeerStep, Refused, RefusesEdit, Reply, Runs, peer_with_change}
 use Rattle.tp_edit.specs.Text.{IsTextOf}
-use Rattle.tp_commands.specs.Updating.{AreEditsOf, IsFullBefore, LeadOn, MakesNext, MakesText, UpdatesJournal, hashes_of}
+use Rattle.tp_commands.specs.declared.error.CommandError.{CommandError}
+use Rattle.tp_commands.specs.declared.error.UpdateError.{UpdateError}
+use Rattle.tp_commands.specs.Cutting.{AreStretchesCut}
+use Rattle.tp_commands.specs.HalfWay.{DoesFirst, stopping_place}
+use Rattle.tp_commands.specs.Updating.{AreEditsOf, IsFullBefore, IsNotRewritten, MakesEdits, MakesNext, MakesText, RefusesNext, StopsEdits, UpdatesJournal, hashes_of}
+use Rattle.tp_commands.proofs.HalfWayLaws.{left_at}
 
 edits-push : (actor : Actor) (time : ℕ) (message : List ℕ) (C cs : List ChangeParts) (c : ChangeParts) (ss next later : List Splice) → AreEditsOf actor time message C ss (next ++ later) cs → IsFullBefore next later
     → IsAcceptedEdit (C ++ cs) (asking actor next time message) c → AreEditsOf actor time message C ss later (cs ++ c ∷ [])
@@ -143,14 +149,87 @@ some_ahead ss from len some more within =
     let rest = length-drop from ss in
     subst (λ n. 0 < total_count (take n (drop from ss))) (sym same) (some_next (drop from ss) len (All-drop (λ s. 0 < count_of_splice s) from ss some) more (omega (arith, rest, within)))
 
--- what is left leads on, once the next of it were done
-pub leads_later : (C D E : List ChangeParts) (ss rest next later : List Splice) → rest ≡ next ++ later → LeadOn C D ss rest → DoesSplices D E next → LeadOn C E ss later
-leads_later C D E ss rest next later is before does text was =
-    let on = before text was in (
-      all_spliced on.0 next,
-      does on.0 on.1,
-      sym (all_spliced-append on.0 next later) ∙ ap (all_spliced on.0) (sym is) ∙ on.2,
-    )
+-- the splices in turn do what they do together
+does_both : (C D E : List ChangeParts) (first next : List Splice) → DoesSplices C D first → DoesSplices D E next → DoesSplices C E (first ++ next)
+does_both C D E first next done more t was =
+    subst (IsTextOf E) (sym (all_spliced-append t first next)) (more (all_spliced t first) (done t was))
+
+take-plus : (n m : ℕ) (ss : List Splice) → take (n + m) ss ≡ take n ss ++ take m (drop n ss)
+take-plus n m ss =
+    sym (take-append-drop n (take (n + m) ss)) ∙ ap (λ l. l ++ drop n (take (n + m) ss)) (take-take n (n + m) ss (omega arith)) ∙ ap (λ l. take n ss ++ l) (drop-take n m ss)
+
+-- those up to the next place are done, once those from here to there were
+pub does_more : (C D E : List ChangeParts) (ss : List Splice) (from len : ℕ) → DoesSplices C D (take from ss) → DoesSplices D E (take (from + len - from) (drop from ss)) → DoesSplices C E (take (from + len) ss)
+does_more C D E ss from len done more =
+    let same : from + len - from ≡ len = omega arith in
+    let both = does_both C D E (take from ss) (take (from + len - from) (drop from ss)) done more in
+    subst (DoesSplices C E) (ap (λ n. take from ss ++ take n (drop from ss)) same ∙ sym (take-plus from len ss)) both
+
+-- all are done
+pub does_all : (C D : List ChangeParts) (ss : List Splice) (from : ℕ) → length ss ≤ from → DoesSplices C D (take from ss) → DoesSplices C D ss
+does_all C D ss from all done = subst (DoesSplices C D) (take_all from ss all) done
+
+-- ---- edits that are refused
+
+placed : (C D : List ChangeParts) (ss first more rest : List Splice) (place : Option ℕ) → ss ≡ first ++ (more ++ rest) → DoesSplices C D (first ++ more) → 0 < length (more ++ rest)
+    → place ≡ stopping_place first (more ++ rest) → DoesFirst C D ss place
+placed C D ss [] more rest place parts done some is = subst (DoesFirst C D ss) (sym is) tt
+placed C D ss (s ∷ first) more rest place parts done some is = subst (DoesFirst C D ss) (sym is) (s ∷ first, more, rest, parts, done, some, refl)
+
+-- those before a place are done, and maybe those from there to the next too
+pub first_done : (C D E : List ChangeParts) (ss : List Splice) (from len : ℕ) (place : Option ℕ) → from < length ss → place ≡ stopping_place (take from ss) (drop from ss)
+    → DoesSplices C D (take from ss) → (E ≡ D) ⊎ DoesSplices D E (take (from + len - from) (drop from ss)) → DoesFirst C E ss place
+first_done C D E ss from len place within is done (inl same) =
+    let left = length-drop from ss in
+    let here : DoesSplices C E (take from ss) = subst (λ (X : List ChangeParts). DoesSplices C X (take from ss)) (sym same) done in
+    placed C E ss (take from ss) [] (drop from ss) place (sym (take-append-drop from ss)) (subst (DoesSplices C E) (sym (append-nil (take from ss))) here) (omega (arith, left, within)) is
+first_done C D E ss from len place within is done (inr more) =
+    let next : List Splice = take (from + len - from) (drop from ss) in
+    let later : List Splice = drop (from + len) ss in
+    let ahead : drop from ss ≡ next ++ later = ahead_is ss from len in
+    let left = length-drop from ss in
+    let count = ap length ahead in
+    placed C E ss (take from ss) next later place (sym (take-append-drop from ss) ∙ ap (λ l. take from ss ++ l) ahead) (does_both C D E (take from ss) next done more) (omega (arith, left, count, within))
+    (is ∙ ap (stopping_place (take from ss)) ahead)
+
+-- a refused edit leaves the changes
+kept_by : (p p' : PeerState) (asked : EditRequest) (e : PeerError) → RefusesEdit p asked e p' → p'.applied ≡ p.applied
+kept_by p p' asked (Doc e) r = ap (λ (x : PeerState). x.applied) r.2
+kept_by p p' asked JournalFailed r = ap (λ (x : PeerState). x.applied) r.2.left
+kept_by p p' asked OutOfMemory r = ap (λ (x : PeerState). x.applied) r
+kept_by p p' asked _ r = absurd r
+
+pub refused_keeps : (p p' : PeerState) (ss : List Splice) (time : ℕ) (message : List ℕ) (e : PeerError) → p.stopped ≡ false → PeerStep p (Edit ss time message) (Refused e) p' → p'.applied ≡ p.applied
+refused_keeps p p' ss time message e running step = kept_by p p' (asking p.actor ss time message) e (runs_edit p p' ss time message (Refused e) running step)
+
+-- the edits of those before a place were made, and the next was refused
+pub stops_edits : (p q : PeerState) (ss next : List Splice) (from time : ℕ) (message : List ℕ) (hashes : List Hash) (error : CommandError) (e : UpdateError) → MakesEdits p ss (drop from ss) time message hashes q
+    → e.error ≡ error → e.place ≡ stopping_place (take from ss) (drop from ss) → RefusesNext q next time message error → StopsEdits p ss time message e
+stops_edits p q ss next from time message hashes error e made is place refused = record {
+  now = q;
+  made = made.made;
+  first = take from ss;
+  rest = drop from ss;
+  next = next;
+  parts = sym (take-append-drop from ss);
+  edits = made.edits;
+  applied = made.applied;
+  refuses = subst (RefusesNext q next time message) (sym is) refused;
+  place_is = place;
+}
+
+pub stops_text : (p after : PeerState) (old text : List ℕ) (ss : List Splice) (time : ℕ) (message : List ℕ) {T : Type 0} (r : Result T UpdateError) → IsTextOf p.applied old → LeadAcross MAX_OPS old text ss → AreStretchesCut old text ss
+    → IfErr r (λ e. StopsEdits p ss time message e) → IfErr r (λ e. DoesFirst p.applied after.applied ss e.place) → IfErr r (λ e. IsNotRewritten p text time message e after)
+stops_text p after old text ss time message (Ok x) was lead cut stops done = tt
+stops_text p after old text ss time message (Err e) was lead cut stops done = inr (record {
+  old = old;
+  was_text = was;
+  differences = ss;
+  leads = lead;
+  cut = cut;
+  stops = stops;
+  left = left_at MAX_OPS p.applied after.applied old text ss e.place lead was done;
+})
 
 -- ---- groups of splices
 

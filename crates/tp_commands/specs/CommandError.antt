@@ -1,5 +1,5 @@
 -- The refusals of commands: their numbers, and which refusal of a layer below is which.
-use Rattle.std.specs.Prelude.{◌≡◌, ◌⊎◌, ℕ}
+use Rattle.std.specs.Prelude.{◌≡◌, ◌⊎◌, ℕ, None}
 use Rattle.tp_document.specs.declared.error.DocError.{DocError}
 use Rattle.tp_document.specs.declared.error.DocError.TheVariants as doc
 use Rattle.tp_journal.specs.declared.opening.OpenError.{OpenError}
@@ -15,6 +15,7 @@ use Rattle.tp_journal.specs.declared.error.JournalError.TheVariants as journal
 use Rattle.tp_store.specs.declared.error.StoreError.{StoreError}
 use Rattle.tp_store.specs.declared.error.StoreError.TheVariants as store
 use Rattle.tp_commands.specs.declared.error.CommandError.{CommandError}
+use Rattle.tp_commands.specs.declared.error.UpdateError.{UpdateError}
 use Rattle.tp_commands.specs.declared.error.CommandError.TheVariants.{Io, OutOfMemory, Peer, Doc, Store, Busy, NotText, NotEmpty, NotQuiet, BothHaveText, BadState}
 
 -- the number of a refusal
@@ -67,3 +68,7 @@ abbrev pub command_refusal_of_bytes : StoreError → CommandError
 command_refusal_of_bytes store.Io = Io
 command_refusal_of_bytes store.OutOfMemory = OutOfMemory
 command_refusal_of_bytes e = Store e
+
+-- the refusal, where no change was made before
+abbrev pub at_once : CommandError → UpdateError
+at_once e = record { error = e; place = None }

@@ -1,5 +1,5 @@
 -- What makes the text of a journal, as it was at some heads, another one, beside what came since.
-use Rattle.std.specs.Prelude.{◌≡◌, ◌⊎◌, ◌≤◌, ℕ, List, [], ◌∷◌, ◌++◌, false, length, IsTrue}
+use Rattle.std.specs.Prelude.{◌≡◌, ◌⊎◌, ◌≤◌, ℕ, List, [], ◌∷◌, ◌++◌, Option, None, false, length, IsTrue}
 use Rattle.tp_opid.specs.declared.actor.Actor.{Actor}
 use Rattle.tp_opid.specs.declared.doc_id.DocId.{DocId}
 use Rattle.tp_opid.specs.declared.hash.Hash.{Hash}
@@ -7,7 +7,7 @@ use Rattle.tp_layout.specs.declared.limits.TheConstants.{MAX_OPS}
 use Rattle.tp_layout.specs.declared.parts.ChangeParts.{ChangeParts}
 use Rattle.tp_change.specs.ChangeHash.{hash_of}
 use Rattle.tp_diff.specs.Differences.{LeadAcross}
-use Rattle.tp_document.specs.Editing.{DoesSplices, IsAcceptedEdit, asking}
+use Rattle.tp_document.specs.Editing.{DoesSplices, EditRequest, IsAcceptedEdit, asking}
 use Rattle.tp_document.specs.declared.error.DocError.TheVariants.{UnknownHead}
 use Rattle.tp_edit.specs.declared.splice.Splice.{Splice}
 use Rattle.tp_edit.specs.Splices.{total_count}
@@ -25,8 +25,10 @@ use Rattle.tp_peer.specs.PeerState.{PeerState}
 use Rattle.tp_peer.specs.declared.editing_at.EditAtError.{EditAtError}
 use Rattle.tp_commands.specs.declared.error.CommandError.{CommandError}
 use Rattle.tp_commands.specs.declared.error.CommandError.TheVariants.{Doc, OutOfMemory}
-use Rattle.tp_commands.specs.CommandError.{refusal_of_edit_at}
+use Rattle.tp_commands.specs.declared.error.UpdateError.{UpdateError}
+use Rattle.tp_commands.specs.CommandError.{at_once, refusal_of_edit_at}
 use Rattle.tp_commands.specs.Cutting.{AreStretchesCut}
+use Rattle.tp_commands.specs.HalfWay.{DoesFirst, IsLeftAt, stopping_place}
 use Rattle.tp_commands.specs.Refusing.{RefusesJournalOpening}
 use Rattle.tp_commands.specs.Updating.{IsFullBefore, IsNotUpdated, UpdatesJournal, hashes_of}
 
@@ -110,35 +112,58 @@ pub record MakesTextAt (p : PeerState) (H : List Hash) (actor : Actor) (text : L
   pub makes : MakesEditsAt p H actor differences [] time message on hashes after
   pub is_text : IsTextOf (past after.applied on) text
 
--- The peer made the edits of splices, except the rest, at the hashes H, and was refused the next.
-pub record StopsEditsAt (p : PeerState) (H : List Hash) (actor : Actor) (time : ℕ) (message : List ℕ) (e : CommandError) : Type 0 where
+-- Why an edit on the hashes wasn't made: memory was refused, or the peer refused it.
+abbrev pub RefusesNextAt : PeerState → List Hash → EditRequest → CommandError → Type 0
+RefusesNextAt p on asked e =
+    (e ≡ OutOfMemory) ⊎ ((error : EditAtError) × (after : PeerState) × RefusesEditAt p on asked error after × (e ≡ refusal_of_edit_at error))
+
+-- The text at the hashes that the edit was to be made on is as it was, or the edit's splices were done.
+abbrev pub LeavesOrDoes : PeerState → List Hash → List Splice → PeerState → Type 0
+LeavesOrDoes p on next after =
+    (hs : List Hash) × ((past after.applied hs ≡ past p.applied on) ⊎ DoesSplices (past p.applied on) (past after.applied hs) next)
+
+-- The peer made the edits of the first of the splices at the hashes H, and was refused the next; the place is where those that
+-- are left begin.
+pub record StopsEditsAt (p : PeerState) (H : List Hash) (actor : Actor) (ss : List Splice) (time : ℕ) (message : List ℕ) (e : UpdateError) : Type 0 where
   pub now : PeerState
   pub made : List ChangeParts
-  pub splices : List Splice
+  pub first : List Splice
   pub rest : List Splice
   pub next : List Splice
-  pub edits : AreEditsAt actor time message p.applied H splices rest made
+  pub parts : ss ≡ first ++ rest
+  pub edits : AreEditsAt actor time message p.applied H ss rest made
   pub applied : now.applied ≡ p.applied ++ made
-  pub error : EditAtError
-  pub after : PeerState
-  pub refuses : RefusesEditAt now (heads_after H made) (asking actor next time message) error after
-  pub is_error : e ≡ refusal_of_edit_at error
+  pub refuses : RefusesNextAt now (heads_after H made) (asking actor next time message) e.error
+  pub place_is : e.place ≡ stopping_place first rest
 
--- why a peer's text at the hashes wasn't made another one: memory was refused, a hash isn't that of a change, or an edit was
--- refused
-abbrev pub IsNotRewrittenAt : PeerState → List Hash → Actor → ℕ → List ℕ → CommandError → Type 0
-IsNotRewrittenAt p H actor time message e =
-    (e ≡ OutOfMemory) ⊎ (((e ≡ Doc UnknownHead) × (has_all p.applied H ≡ false)) ⊎ StopsEditsAt p H actor time message e)
+-- at some hashes the text is that of C with the first of the splices done
+abbrev pub DoesFirstAt : List ChangeParts → List ChangeParts → List Splice → Option ℕ → Type 0
+DoesFirstAt P C ss place = (hs : List Hash) × DoesFirst P (past C hs) ss place
 
--- so an edit may stop after whatever edits of splices before: memory was refused, or the edit
-abbrev pub StopsNextAt : Actor → ℕ → List ℕ → List Hash → List Hash → PeerState → CommandError → Type 0
-StopsNextAt actor time message on hashes before e =
-    (p : PeerState) (H : List Hash) (ss rest : List Splice) → MakesEditsAt p H actor ss rest time message on hashes before → (e ≡ OutOfMemory) ⊎ StopsEditsAt p H actor time message e
+-- The peer's text at the hashes H was to be made this one by the edits of the differences between the two. Some of them were
+-- made, up to the place.
+pub record StopsTextAt (p : PeerState) (H : List Hash) (actor : Actor) (text : List ℕ) (time : ℕ) (message : List ℕ) (e : UpdateError) (after : PeerState) : Type 0 where
+  pub known : IsTrue (has_all p.applied H)
+  pub old : List ℕ
+  pub was_text : IsTextOf (past p.applied H) old
+  pub differences : List Splice
+  pub leads : LeadAcross MAX_OPS old text differences
+  pub cut : AreStretchesCut old text differences
+  pub stops : StopsEditsAt p H actor differences time message e
+  pub on : List Hash
+  pub left : IsLeftAt old text (past after.applied on) e.place
+
+-- why a peer's text at the hashes wasn't made another one: memory was refused at once, a hash isn't that of a change, or the next
+-- of the edits was refused
+abbrev pub IsNotRewrittenAt : PeerState → List Hash → Actor → List ℕ → ℕ → List ℕ → PeerState → UpdateError → Type 0
+IsNotRewrittenAt p H actor text time message after e =
+    (e ≡ at_once OutOfMemory) ⊎ (((e ≡ at_once (Doc UnknownHead)) × (has_all p.applied H ≡ false)) ⊎ StopsTextAt p H actor text time message e after)
 
 -- why the text of a journal at the heads wasn't made another one: it wasn't opened, or so
-abbrev pub IsNotUpdatedSince : JournalState → List Hash → Actor → ℕ → List ℕ → CommandError → Type 0
-IsNotUpdatedSince k H actor time message e = RefusesJournalOpening k actor e ⊎ ((p : PeerState) × Reopens k actor p × IsNotRewrittenAt p H actor time message e)
+abbrev pub IsNotUpdatedSince : JournalState → List Hash → Actor → List ℕ → ℕ → List ℕ → UpdateError → Type 0
+IsNotUpdatedSince k H actor text time message e =
+    ((e.place ≡ None) × RefusesJournalOpening k actor e.error) ⊎ ((p : PeerState) × (after : PeerState) × Reopens k actor p × IsNotRewrittenAt p H actor text time message after e)
 
-abbrev pub IsNotUpdatedFrom : List Hash → JournalState → Actor → ℕ → List ℕ → CommandError → Type 0
-IsNotUpdatedFrom [] k actor time message e = IsNotUpdated k actor time message e
-IsNotUpdatedFrom (h ∷ hs) k actor time message e = IsNotUpdatedSince k (h ∷ hs) actor time message e
+abbrev pub IsNotUpdatedFrom : List Hash → JournalState → Actor → List ℕ → ℕ → List ℕ → UpdateError → Type 0
+IsNotUpdatedFrom [] k actor text time message e = IsNotUpdated k actor text time message e
+IsNotUpdatedFrom (h ∷ hs) k actor text time message e = IsNotUpdatedSince k (h ∷ hs) actor text time message e

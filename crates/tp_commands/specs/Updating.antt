@@ -1,5 +1,5 @@
 -- What makes the text of a journal another one.
-use Rattle.std.specs.Prelude.{◌≡◌, ◌⊎◌, ◌+◌, ◌<◌, ◌≤◌, ℕ, List, [], ◌∷◌, ◌++◌, false, length, map}
+use Rattle.std.specs.Prelude.{◌≡◌, ◌⊎◌, ◌+◌, ◌<◌, ◌≤◌, ℕ, List, [], ◌∷◌, ◌++◌, None, false, length, map}
 use Rattle.tp_opid.specs.declared.actor.Actor.{Actor}
 use Rattle.tp_opid.specs.declared.doc_id.DocId.{DocId}
 use Rattle.tp_opid.specs.declared.hash.Hash.{Hash}
@@ -8,7 +8,7 @@ use Rattle.tp_change.specs.ChangeHash.{hash_of}
 use Rattle.tp_layout.specs.declared.limits.TheConstants.{MAX_OPS}
 use Rattle.tp_diff.specs.Differences.{LeadAcross}
 use Rattle.tp_edit.specs.declared.splice.Splice.{Splice}
-use Rattle.tp_edit.specs.Splices.{all_spliced, count_of_splice, total_count}
+use Rattle.tp_edit.specs.Splices.{count_of_splice, total_count}
 use Rattle.tp_document.specs.Editing.{IsAcceptedEdit, asking}
 use Rattle.tp_recovery.specs.Layout.{journal}
 use Rattle.tp_recovery.specs.Recovery.{Recovers}
@@ -18,9 +18,12 @@ use Rattle.tp_peer.specs.Opening.{Reopens}
 use Rattle.tp_peer.specs.PeerState.{PeerState}
 use Rattle.tp_peer.specs.PeerStep.{Edit}
 use Rattle.tp_edit.specs.Text.{IsTextOf}
+use Rattle.tp_commands.specs.declared.error.UpdateError.{UpdateError}
 use Rattle.tp_commands.specs.declared.error.CommandError.{CommandError}
 use Rattle.tp_commands.specs.declared.error.CommandError.TheVariants.{NotEmpty, OutOfMemory}
+use Rattle.tp_commands.specs.CommandError.{at_once}
 use Rattle.tp_commands.specs.Cutting.{AreStretchesCut}
+use Rattle.tp_commands.specs.HalfWay.{IsLeftAt, stopping_place}
 use Rattle.tp_commands.specs.Refusing.{RefusesJournalOpening, RefusesCall}
 
 -- The first of the later splices would make the operations of these more than a change may have.
@@ -90,37 +93,47 @@ pub record MakesText (p : PeerState) (text : List ℕ) (time : ℕ) (message : L
   pub makes : MakesEdits p differences [] time message hashes after
   pub is_text : IsTextOf after.applied text
 
--- What is left of the splices leads from the text of D to where all of them lead from that of C.
-abbrev pub LeadOn : List ChangeParts → List ChangeParts → List Splice → List Splice → Type 0
-LeadOn C D ss rest = (text : List ℕ) → IsTextOf C text → (now : List ℕ) × IsTextOf D now × (all_spliced now rest ≡ all_spliced text ss)
-
 -- the text of the journal's changes is empty
 abbrev pub HasNoCharacters : List ℕ → Type 0
 HasNoCharacters bytes = (id : DocId) × (changes : List ChangeParts) × (keep : ℕ) × Recovers bytes id changes keep × IsTextOf changes []
 
--- The peer made the edits of splices but for the rest, and was refused the next.
-pub record StopsEdits (p : PeerState) (time : ℕ) (message : List ℕ) (e : CommandError) : Type 0 where
+-- why the next edit isn't made: memory was refused, or the peer refused it
+abbrev pub RefusesNext : PeerState → List Splice → ℕ → List ℕ → CommandError → Type 0
+RefusesNext p next time message e = (e ≡ OutOfMemory) ⊎ RefusesCall p (Edit next time message) e
+
+-- The peer made the edits of the first of the splices, and was refused the next; the place is where those that are left begin.
+pub record StopsEdits (p : PeerState) (ss : List Splice) (time : ℕ) (message : List ℕ) (e : UpdateError) : Type 0 where
   pub now : PeerState
   pub made : List ChangeParts
-  pub splices : List Splice
+  pub first : List Splice
   pub rest : List Splice
   pub next : List Splice
-  pub edits : AreEditsOf p.actor time message p.applied splices rest made
+  pub parts : ss ≡ first ++ rest
+  pub edits : AreEditsOf p.actor time message p.applied ss rest made
   pub applied : now.applied ≡ p.applied ++ made
-  pub refuses : RefusesCall now (Edit next time message) e
+  pub refuses : RefusesNext now next time message e.error
+  pub place_is : e.place ≡ stopping_place first rest
 
--- why a peer's text wasn't made another one: memory was refused, or an edit
-abbrev pub IsNotRewritten : PeerState → ℕ → List ℕ → CommandError → Type 0
-IsNotRewritten p time message e = (e ≡ OutOfMemory) ⊎ StopsEdits p time message e
+-- The peer's text was to be made this one by the edits of the differences between the two. Some of them were made, up to the
+-- place.
+pub record StopsText (p : PeerState) (text : List ℕ) (time : ℕ) (message : List ℕ) (e : UpdateError) (after : PeerState) : Type 0 where
+  pub old : List ℕ
+  pub was_text : IsTextOf p.applied old
+  pub differences : List Splice
+  pub leads : LeadAcross MAX_OPS old text differences
+  pub cut : AreStretchesCut old text differences
+  pub stops : StopsEdits p differences time message e
+  pub left : IsLeftAt old text after.applied e.place
 
--- so it is after whatever edits of splices before
-abbrev pub StopsNext : ℕ → List ℕ → List Hash → PeerState → CommandError → Type 0
-StopsNext time message hashes before e = (p : PeerState) (ss rest : List Splice) → MakesEdits p ss rest time message hashes before → IsNotRewritten p time message e
+-- why a peer's text wasn't made another one: memory was refused at once, or the next of the edits
+abbrev pub IsNotRewritten : PeerState → List ℕ → ℕ → List ℕ → UpdateError → PeerState → Type 0
+IsNotRewritten p text time message e after = (e ≡ at_once OutOfMemory) ⊎ StopsText p text time message e after
 
 -- why the text of a journal wasn't made another one: it wasn't opened, or so
-abbrev pub IsNotUpdated : JournalState → Actor → ℕ → List ℕ → CommandError → Type 0
-IsNotUpdated k actor time message e = RefusesJournalOpening k actor e ⊎ ((p : PeerState) × Reopens k actor p × IsNotRewritten p time message e)
+abbrev pub IsNotUpdated : JournalState → Actor → List ℕ → ℕ → List ℕ → UpdateError → Type 0
+IsNotUpdated k actor text time message e =
+    ((e.place ≡ None) × RefusesJournalOpening k actor e.error) ⊎ ((p : PeerState) × (after : PeerState) × Reopens k actor p × IsNotRewritten p text time message e after)
 
 -- why a text wasn't brought into a journal: its text isn't empty, memory was refused, or as an update
-abbrev pub IsNotImported : JournalState → Actor → ℕ → List ℕ → CommandError → Type 0
-IsNotImported k actor time message e = (e ≡ NotEmpty) ⊎ ((e ≡ OutOfMemory) ⊎ IsNotUpdated k actor time message e)
+abbrev pub IsNotImported : JournalState → Actor → List ℕ → ℕ → List ℕ → UpdateError → Type 0
+IsNotImported k actor text time message e = (e ≡ at_once NotEmpty) ⊎ ((e ≡ at_once OutOfMemory) ⊎ IsNotUpdated k actor text time message e)

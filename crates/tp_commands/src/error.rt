@@ -2,7 +2,7 @@
 
 ghost use Rattle.std.specs.Prelude.{◌≡◌};
 ghost use Rattle.tp_commands.specs.declared.error.CommandError.TheVariants.{OutOfMemory};
-ghost use Rattle.tp_commands.specs.CommandError.{code_of, IsOfSystem, command_refusal_of_bytes, command_refusal_of_document, command_refusal_of_journal, refusal_of_edit_at, refusal_of_opening, refusal_of_peer};
+ghost use Rattle.tp_commands.specs.CommandError.{code_of, IsOfSystem, at_once, command_refusal_of_bytes, command_refusal_of_document, command_refusal_of_journal, refusal_of_edit_at, refusal_of_opening, refusal_of_peer};
 
 use std::alloc::{AllocError, AllocFailed};
 use std::io;
@@ -41,6 +41,16 @@ pub enum CommandError {
     BothHaveText,
     /// The state file of a mirror isn't whole, or is another document's.
     BadState,
+}
+
+/// Why a text wasn't made another one, and how far that came.
+#[derive(Clone, Copy, Debug, PartialEq, Eq)]
+pub struct UpdateError {
+    /// Why it stopped.
+    pub error: CommandError,
+    /// Of how many characters, from its beginning, the text is the new one at least; the rest is the old one's. `None` where it
+    /// stopped at the first change.
+    pub place: Option<usize>,
 }
 
 impl CommandError {
@@ -160,5 +170,29 @@ impl From<StoreError> for CommandError {
             StoreError::OutOfMemory => CommandError::OutOfMemory,
             error => CommandError::Store(error),
         }
+    }
+}
+
+impl From<CommandError> for UpdateError {
+    ghost from_gives = { λ error e. e ≡ at_once error };
+
+    fn from(error: CommandError) -> UpdateError {
+        UpdateError { error, place: None }
+    }
+}
+
+impl From<AllocError> for UpdateError {
+    ghost from_gives = { λ _ e. e ≡ at_once OutOfMemory };
+
+    fn from(_e: AllocError) -> UpdateError {
+        UpdateError::from(CommandError::OutOfMemory)
+    }
+}
+
+impl From<DocError> for UpdateError {
+    ghost from_gives = { λ error e. e ≡ at_once (command_refusal_of_document error) };
+
+    fn from(error: DocError) -> UpdateError {
+        UpdateError::from(CommandError::from(error))
     }
 }

@@ -17,7 +17,7 @@ mod updating;
 
 pub use diff::{DiffForm, diff_lines};
 pub use editing::{begin, edit, merge, reopen};
-pub use error::CommandError;
+pub use error::{CommandError, UpdateError};
 pub use graph::graph_lines;
 pub use log::log_lines;
 pub use pretty::pretty_lines;

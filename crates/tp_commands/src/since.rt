@@ -1,22 +1,22 @@
 //! A text that was taken out of a journal earlier, and came back changed.
 
-ghost use Rattle.std.specs.Prelude.{◌≡◌, ◌⊎◌, ◌<◌, [], IfErr, IfOk, OnOk, false};
+ghost use Rattle.std.specs.Prelude.{◌≡◌, ◌⊎◌, ◌<◌, [], IfErr, IfOk, OnErr, OnOk, false};
 ghost use Rattle.std.specs.List.{All};
 ghost use Rattle.std.specs.Str.{chars};
-ghost use Rattle.tp_document.specs.Editing.{DoesSplices};
+ghost use Rattle.tp_document.specs.Editing.{DoesSplices, asking};
 ghost use Rattle.tp_edit.specs.Splices.{count_of_splice, total_count};
 ghost use Rattle.tp_history.specs.Past.{past};
 ghost use Rattle.tp_peer.specs.Appending.{journal_state};
 ghost use Rattle.tp_recovery.specs.Recovery.{Recovers};
 ghost use Rattle.tp_recovery.specs.Refusals.{IsJournalFault};
 ghost use Rattle.tp_store.specs.declared.error.StoreError.TheVariants.{OutOfMemory as Lack};
-ghost use Rattle.tp_commands.specs.Since.{GrowsAlone, IsNotRewrittenAt, IsNotUpdatedFrom, IsNotUpdatedSince, MakesEditsAt, MakesNextAt, MakesTextAt, StopsEditsAt, StopsNextAt, UpdatesFrom, UpdatesSince};
+ghost use Rattle.tp_commands.specs.Since.{DoesFirstAt, GrowsAlone, IsNotRewrittenAt, IsNotUpdatedFrom, IsNotUpdatedSince, LeavesOrDoes, MakesEditsAt, MakesNextAt, MakesTextAt, RefusesNextAt, StopsEditsAt, UpdatesFrom, UpdatesSince};
 
 use crate::cutting::differences_in_parts;
 use crate::editing::reopen;
-use crate::error::CommandError;
+use crate::error::{CommandError, UpdateError};
 use crate::reading::{Recovery, earlier_text};
-use crate::updating::{group_len, update_now};
+use crate::updating::{group_len, stopped_at, update_now};
 use std::alloc::Global;
 use tp_edit::Splice;
 use tp_journal::Journal;
@@ -50,8 +50,9 @@ fn edit_on<J: Journal>(
     ensures text { OnOk result (DoesSplices (past peer.old.applied on.old.items)
         (past peer.new.applied on.new.items) splices.now) }
     ensures grows { GrowsAlone peer.old peer.new }
-    ensures err { IfErr result
-        (StopsNextAt by.now.actor by.now.time (chars by.now.message.now) on.old.items hashes.old.items peer.old) }
+    ensures err { IfErr result (λ e. RefusesNextAt peer.old on.old.items
+        (asking by.now.actor splices.now by.now.time (chars by.now.message.now)) e) }
+    ensures left { OnErr result (LeavesOrDoes peer.old on.old.items splices.now peer.new) }
 {
     match peer.edit_at(on, by.actor, splices, by.time, by.message) {
         Ok(Some(hash)) => {
@@ -72,7 +73,7 @@ fn edit_all_at<J: Journal>(
     on: &mut Vec<Hash>,
     splices: &[Splice],
     by: &Metadata<'_>,
-) -> Result<Vec<Hash>, CommandError>
+) -> Result<Vec<Hash>, UpdateError>
     requires runs { peer.old.stopped ≡ false }
     requires some { All (λ s. 0 < count_of_splice s) splices.now }
     ensures ok { IfOk result (λ hashes. MakesEditsAt peer.old on.old.items by.now.actor splices.now []
@@ -80,21 +81,26 @@ fn edit_all_at<J: Journal>(
     ensures text { OnOk result (DoesSplices (past peer.old.applied on.old.items)
         (past peer.new.applied on.new.items) splices.now) }
     ensures grows { GrowsAlone peer.old peer.new }
-    ensures err { IfErr result (λ e. (e ≡ CommandError.OutOfMemory)
-        ⊎ StopsEditsAt peer.old on.old.items by.now.actor by.now.time (chars by.now.message.now) e) }
+    ensures err { IfErr result (λ e. StopsEditsAt peer.old on.old.items by.now.actor splices.now
+        by.now.time (chars by.now.message.now) e) }
+    ensures left { IfErr result (λ e. DoesFirstAt (past peer.old.applied on.old.items)
+        peer.new.applied splices.now e.place) }
 {
     let mut hashes = Vec::new(alloc);
     let mut from = 0;
     while from < splices.len() {
         let end = from + group_len(&splices[from..]);
-        edit_on(peer, on, &mut hashes, &splices[from..end], by)?;
-        from = end;
+        match edit_on(peer, on, &mut hashes, &splices[from..end], by) {
+            Ok(()) => from = end,
+            Err(error) => return Err(stopped_at(error, splices, from)),
+        }
     }
     Ok(hashes)
 }
 
 /// Makes the peer's text at the hashes another one, by their differences, as [`update`](crate::update) with heads does. Answers
-/// the hashes of the changes: of none where the text was this one.
+/// the hashes of the changes: of none where the text was this one. Where it stops, a beginning of them is made, and the refusal
+/// says how far.
 #[tactic(auto, using(crate::proofs::GrowthLaws::same_grows))]
 pub fn rewrite_at<J: Journal>(
     alloc: Global,
@@ -102,13 +108,13 @@ pub fn rewrite_at<J: Journal>(
     since: &[Hash],
     text: &str,
     by: &Metadata<'_>,
-) -> Result<Vec<Hash>, CommandError>
+) -> Result<Vec<Hash>, UpdateError>
     requires { peer.old.stopped ≡ false }
     ensures ok { IfOk result (λ hashes. MakesTextAt peer.old since.now by.now.actor
         (chars text.now) by.now.time (chars by.now.message.now) hashes.items peer.new) }
     ensures grows { GrowsAlone peer.old peer.new }
-    ensures err { IfErr result (IsNotRewrittenAt peer.old since.now by.now.actor by.now.time
-        (chars by.now.message.now)) }
+    ensures err { IfErr result (IsNotRewrittenAt peer.old since.now by.now.actor (chars text.now)
+        by.now.time (chars by.now.message.now) peer.new) }
 {
     let before = earlier_text(peer.document(), since)?;
     let splices = differences_in_parts(alloc, before.as_str(), text)?;
@@ -126,7 +132,7 @@ fn update_since<J: Journal>(
     since: &[Hash],
     text: &str,
     by: &Metadata<'_>,
-) -> Result<(J, Vec<Hash>), CommandError>
+) -> Result<(J, Vec<Hash>), UpdateError>
     requires recovers { IfOk opened.1 (λ r.
         Recovers (J.content opened.0) r.document.id r.document.applied r.keep
         × (r.document.waiting ≡ [])) }
@@ -135,7 +141,7 @@ fn update_since<J: Journal>(
         (chars text.now) by.now.time (chars by.now.message.now) r.1.items (J.content r.0)) }
     ensures err { IfErr result
         (IsNotUpdatedSince (journal_state (J.content opened.0) (J.device opened.0)) since.now
-        by.now.actor by.now.time (chars by.now.message.now)) }
+        by.now.actor (chars text.now) by.now.time (chars by.now.message.now)) }
 {
     match reopen(alloc, opened, by.actor) {
         Ok(mut peer) => {
@@ -146,7 +152,7 @@ fn update_since<J: Journal>(
                 Err(error) => Err(error),
             }
         }
-        Err(error) => Err(error),
+        Err(error) => Err(UpdateError::from(error)),
     }
 }
 
@@ -156,7 +162,7 @@ fn update_since<J: Journal>(
 ///
 /// Answers the hashes of the changes: of one where the differences of both texts are at most 65,536 operations, and else of as
 /// many as it takes, each on the one before it; of none where the text was this one. A head that isn't the hash of a change is
-/// refused as `UnknownHead`. Where it stops, a beginning of the changes is made.
+/// refused as `UnknownHead`. Where it stops, a beginning of the changes is made, and the refusal says how far.
 ///
 /// With heads it costs a copy of their past for the first change, beside the differences.
 pub fn update<J: Journal>(
@@ -165,7 +171,7 @@ pub fn update<J: Journal>(
     since: &[Hash],
     text: &str,
     by: &Metadata<'_>,
-) -> Result<(J, Vec<Hash>), CommandError>
+) -> Result<(J, Vec<Hash>), UpdateError>
     requires recovers { IfOk opened.1 (λ r.
         Recovers (J.content opened.0) r.document.id r.document.applied r.keep
         × (r.document.waiting ≡ [])) }
@@ -174,7 +180,7 @@ pub fn update<J: Journal>(
         (chars text.now) by.now.time (chars by.now.message.now) r.1.items (J.content r.0)) }
     ensures err { IfErr result
         (IsNotUpdatedFrom since.now (journal_state (J.content opened.0) (J.device opened.0))
-        by.now.actor by.now.time (chars by.now.message.now)) }
+        by.now.actor (chars text.now) by.now.time (chars by.now.message.now)) }
 {
     match since {
         [] => update_now(alloc, opened, by.actor, text, by.time, by.message),

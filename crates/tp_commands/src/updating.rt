@@ -1,6 +1,6 @@
 //! A text from elsewhere, which becomes the text of a journal.
 
-ghost use Rattle.std.specs.Prelude.{◌≡◌, ◌⊎◌, ◌<◌, ◌≤◌, [], drop, length, take, IfErr, IfOk, IsOkUnless, OnOk, false};
+ghost use Rattle.std.specs.Prelude.{◌≡◌, ◌⊎◌, ◌<◌, ◌≤◌, [], drop, length, take, IfErr, IfOk, IsOkUnless, OnErr, OnOk, false};
 ghost use Rattle.std.specs.List.{All};
 ghost use Rattle.std.specs.Str.{chars};
 ghost use Rattle.std.specs.Str.Lossy.{utf8_valid_len};
@@ -11,12 +11,13 @@ ghost use Rattle.tp_peer.specs.Appending.{journal_state};
 ghost use Rattle.tp_store.specs.declared.error.StoreError.TheVariants.{OutOfMemory as Lack};
 ghost use Rattle.tp_edit.specs.Text.{IsTextOf};
 ghost use Rattle.tp_commands.specs.declared.error.CommandError.TheVariants.{NotText};
-ghost use Rattle.tp_commands.specs.Updating.{HasNoCharacters, IsFullBefore, IsNotImported, IsNotRewritten, IsNotUpdated, MakesEdits, MakesNext, MakesText, StopsNext, UpdatesJournal};
+ghost use Rattle.tp_commands.specs.HalfWay.{DoesFirst, stopping_place};
+ghost use Rattle.tp_commands.specs.Updating.{HasNoCharacters, IsFullBefore, IsNotImported, IsNotRewritten, IsNotUpdated, MakesEdits, MakesNext, MakesText, RefusesNext, StopsEdits, UpdatesJournal};
 ghost use Rattle.tp_edit.specs.Splices.{count_of_splice, total_count};
 
 use crate::cutting::differences_in_parts;
 use crate::editing::reopen;
-use crate::error::CommandError;
+use crate::error::{CommandError, UpdateError};
 use crate::reading::Recovery;
 use std::alloc::Global;
 use std::str;
@@ -68,17 +69,35 @@ fn edit_once<J: Journal>(
     time: u64,
     message: &str,
 ) -> Result<(), CommandError>
-    requires { 0 < total_count splices.now }
+    requires runs { peer.old.stopped ≡ false }
+    requires some { 0 < total_count splices.now }
     ensures ok { OnOk result (MakesNext splices.now time (chars message.now)
         hashes.old.items peer.old hashes.new.items peer.new) }
     ensures text { OnOk result (DoesSplices peer.old.applied peer.new.applied splices.now) }
-    ensures err { IfErr result
-        (StopsNext time (chars message.now) hashes.old.items peer.old) }
+    ensures err { IfErr result (λ e. RefusesNext peer.old splices.now time (chars message.now) e) }
+    ensures left { OnErr result ((peer.new.applied ≡ peer.old.applied)
+        ⊎ DoesSplices peer.old.applied peer.new.applied splices.now) }
 {
     match peer.edit(splices, time, message) {
         Ok(Some(hash)) => Ok(hashes.push(hash)?),
         Ok(None) => Ok(()),
         Err(error) => Err(CommandError::from(error)),
+    }
+}
+
+// The refusal of a change, where those of the splices before `from` were made.
+pub(crate) fn stopped_at(error: CommandError, splices: &[Splice], from: usize) -> UpdateError
+    requires { from < length splices.now }
+    ensures error { result.error ≡ error }
+    ensures place { result.place
+        ≡ stopping_place (take from splices.now) (drop from splices.now) }
+{
+    UpdateError {
+        error,
+        place: match from {
+            0 => None,
+            _ => Some(splices[from].at),
+        },
     }
 }
 
@@ -89,20 +108,24 @@ fn edit_all<J: Journal>(
     splices: &[Splice],
     time: u64,
     message: &str,
-) -> Result<Vec<Hash>, CommandError>
+) -> Result<Vec<Hash>, UpdateError>
     requires runs { peer.old.stopped ≡ false }
     requires some { All (λ s. 0 < count_of_splice s) splices.now }
     ensures ok { IfOk result (λ hashes.
         MakesEdits peer.old splices.now [] time (chars message.now) hashes.items peer.new) }
     ensures text { OnOk result (DoesSplices peer.old.applied peer.new.applied splices.now) }
-    ensures err { IfErr result (λ e. IsNotRewritten peer.old time (chars message.now) e) }
+    ensures err { IfErr result (λ e. StopsEdits peer.old splices.now time (chars message.now) e) }
+    ensures left { IfErr result
+        (λ e. DoesFirst peer.old.applied peer.new.applied splices.now e.place) }
 {
     let mut hashes = Vec::new(alloc);
     let mut from = 0;
     while from < splices.len() {
         let end = from + group_len(&splices[from..]);
-        edit_once(peer, &mut hashes, &splices[from..end], time, message)?;
-        from = end;
+        match edit_once(peer, &mut hashes, &splices[from..end], time, message) {
+            Ok(()) => from = end,
+            Err(error) => return Err(stopped_at(error, splices, from)),
+        }
     }
     Ok(hashes)
 }
@@ -115,11 +138,12 @@ fn rewrite<J: Journal>(
     text: &str,
     time: u64,
     message: &str,
-) -> Result<Vec<Hash>, CommandError>
+) -> Result<Vec<Hash>, UpdateError>
     requires { peer.old.stopped ≡ false }
     ensures ok { IfOk result (λ hashes.
         MakesText peer.old (chars text.now) time (chars message.now) hashes.items peer.new) }
-    ensures err { IfErr result (λ e. IsNotRewritten peer.old time (chars message.now) e) }
+    ensures err { IfErr result
+        (λ e. IsNotRewritten peer.old (chars text.now) time (chars message.now) e peer.new) }
 {
     let before = peer.document().text()?;
     let splices = differences_in_parts(alloc, before.as_str(), text)?;
@@ -128,7 +152,8 @@ fn rewrite<J: Journal>(
 
 /// Makes the journal's text this one, under the actor, by changes that are appended to the journal; it comes with what its
 /// content recovered to. Answers their hashes: of one change where the text's differences are at most 65,536 operations, and else
-/// of as many as it takes; of none where the text is this one already. Where it stops, a beginning of them is made.
+/// of as many as it takes; of none where the text is this one already. Where it stops, a beginning of them is made, and the
+/// refusal says how far.
 pub(crate) fn update_now<J: Journal>(
     alloc: Global,
     opened: (J, Recovery),
@@ -136,7 +161,7 @@ pub(crate) fn update_now<J: Journal>(
     text: &str,
     time: u64,
     message: &str,
-) -> Result<(J, Vec<Hash>), CommandError>
+) -> Result<(J, Vec<Hash>), UpdateError>
     requires recovers { IfOk opened.1 (λ r.
         Recovers (J.content opened.0) r.document.id r.document.applied r.keep
         × (r.document.waiting ≡ [])) }
@@ -144,8 +169,8 @@ pub(crate) fn update_now<J: Journal>(
     ensures updates { IfOk result (λ r. UpdatesJournal (J.content opened.0) actor (chars text.now)
         time (chars message.now) r.1.items (J.content r.0)) }
     ensures err { IfErr result
-        (λ e. IsNotUpdated (journal_state (J.content opened.0) (J.device opened.0)) actor time
-        (chars message.now) e) }
+        (λ e. IsNotUpdated (journal_state (J.content opened.0) (J.device opened.0)) actor
+        (chars text.now) time (chars message.now) e) }
 {
     match reopen(alloc, opened, actor) {
         Ok(mut peer) => {
@@ -156,7 +181,7 @@ pub(crate) fn update_now<J: Journal>(
                 Err(error) => Err(error),
             }
         }
-        Err(error) => Err(error),
+        Err(error) => Err(UpdateError::from(error)),
     }
 }
 
@@ -168,7 +193,7 @@ pub fn import<J: Journal>(
     text: &str,
     time: u64,
     message: &str,
-) -> Result<(J, Vec<Hash>), CommandError>
+) -> Result<(J, Vec<Hash>), UpdateError>
     requires recovers { Recovers (J.content opened.0) opened.1.document.id
         opened.1.document.applied opened.1.keep }
     requires none_waits { opened.1.document.waiting ≡ [] }
@@ -176,8 +201,8 @@ pub fn import<J: Journal>(
     ensures updates { IfOk result (λ r. UpdatesJournal (J.content opened.0) actor (chars text.now)
         time (chars message.now) r.1.items (J.content r.0)) }
     ensures err { IfErr result
-        (λ e. IsNotImported (journal_state (J.content opened.0) (J.device opened.0)) actor time
-        (chars message.now) e) }
+        (λ e. IsNotImported (journal_state (J.content opened.0) (J.device opened.0)) actor
+        (chars text.now) time (chars message.now) e) }
 {
     let (journal, recovered) = opened;
     match has_text(&recovered) {
@@ -185,12 +210,12 @@ pub fn import<J: Journal>(
         Ok(true) => {
             drop(journal);
             drop(recovered);
-            Err(CommandError::NotEmpty)
+            Err(UpdateError::from(CommandError::NotEmpty))
         }
         Err(error) => {
             drop(journal);
             drop(recovered);
-            Err(error)
+            Err(UpdateError::from(error))
         }
     }
 }

@@ -58,7 +58,8 @@ fn rewrite<D: Disk + AllocGlobal>(
         time: 0,
         message: "",
     };
-    let (mut journal, _) = update(rt.alloc(), (journal, Ok(recovered)), &[], text, &by)?;
+    let updated = update(rt.alloc(), (journal, Ok(recovered)), &[], text, &by);
+    let (mut journal, _) = updated.map_err(|e| e.error)?;
     rt.leave(file, &mut journal)
 }
 

@@ -258,7 +258,7 @@ impl<'a, D: Disk + Clock + AllocGlobal, J: Journal, K: Turning> Folder<'a, D, J,
                 self.has_failed = false;
                 Ok(hashes)
             }
-            Err(error) => Err(self.keep_cause(error)),
+            Err(error) => Err(self.keep_cause(error.error)),
         }
     }
 }

@@ -3,7 +3,7 @@ use Rattle.std.proofs.Common.{◌≡◌, ◌⊎◌, ℕ, List, MatchResult, Opti
 use Rattle.std.specs.Prelude.{IfErr, IfOk, IsOkAnd, OnErr, OnOk}
 use Rattle.tp_report.specs.Names.{WasMade}
 use Rattle.tp_report.specs.declared.error.JobError.{JobError}
-use Rattle.tp_report.specs.declared.error.JobError.TheVariants.{Command, Show, Line, Session, Unreached, Closed, Unsaid}
+use Rattle.tp_report.specs.declared.error.JobError.TheVariants.{Command, Show, Line, Session, Unreached, Closed, Unsaid, HalfWay}
 
 -- what is there where it was done is there without what it gave back
 pub done_after : {A B E : Type 0} (r : Result A E) (d : Result (Option B) E) (P : Type 0) → MatchResult r (λ _. d ≡ Ok None) (λ e. d ≡ Err e) → OnOk r P → OnOk d P
@@ -52,3 +52,4 @@ made_of (Err (Line number)) printed P bytes was said = tt
 made_of (Err (Session e)) printed P bytes was said = tt
 made_of (Err (Unreached cause)) printed P bytes was said = tt
 made_of (Err Closed) printed P bytes was said = tt
+made_of (Err (HalfWay e place)) printed P bytes was said = tt

@@ -39,7 +39,7 @@ use tp_mirror::Take;
 use tp_mirroring::{Paths, mirror, place_of};
 use tp_opid::{Actor, DocId, Hash};
 use tp_peer::{PeerSequence, create_journal};
-use tp_report::{JobError, Made, put, put_made};
+use tp_report::{JobError, Made, put, put_made, put_updated};
 use tp_simulate::simulate;
 use tp_store::{StoreError, load};
 use tp_textpeer::show;
@@ -95,7 +95,7 @@ pub fn carry_out<D: Disk + Clock + AllocGlobal, I: Read, W: Write>(
             time,
             message,
             key,
-        } => put_made(
+        } => put_updated(
             out,
             update_text(
                 rt, file, source, &since, input, time, message, key, wait, cut,
@@ -107,7 +107,7 @@ pub fn carry_out<D: Disk + Clock + AllocGlobal, I: Read, W: Write>(
             time,
             message,
             key,
-        } => put_made(
+        } => put_updated(
             out,
             import_text(rt, file, source, input, time, message, key, wait, cut),
         ),

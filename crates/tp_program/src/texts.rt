@@ -12,7 +12,9 @@ ghost use Rattle.tp_report.specs.Names.{output_of_made};
 
 use std::alloc::Global;
 use std::io::Read;
-use tp_commands::{CommandError, Metadata, begin, import, made_lines, text_in_file, update};
+use tp_commands::{
+    CommandError, Metadata, UpdateError, begin, import, made_lines, text_in_file, update,
+};
 use tp_disk::{Disk, Opened, draw, draw_actor, generator};
 use tp_opid::{Actor, DocId, Hash};
 use tp_peer::PeerError;
@@ -47,7 +49,7 @@ pub(crate) fn update_text<D: Disk + AllocGlobal, I: Read>(
     key: Option<[u8; 32]>,
     wait: u64,
     cut: &mut Option<u64>,
-) -> Result<(String, Option<Made>), CommandError>
+) -> Result<(String, Option<Made>), UpdateError>
     requires { cut.old ≡ None }
     ensures cuts { OnOk result (CutsFile (D.saw rt.now) file.now cut.new) }
     ensures may_cut { OnErr result
@@ -92,7 +94,7 @@ pub(crate) fn import_text<D: Disk + AllocGlobal, I: Read>(
     key: Option<[u8; 32]>,
     wait: u64,
     cut: &mut Option<u64>,
-) -> Result<(String, Option<Made>), CommandError>
+) -> Result<(String, Option<Made>), UpdateError>
     requires { cut.old ≡ None }
     ensures cuts { OnOk result (CutsFile (D.saw rt.now) file.now cut.new) }
     ensures may_cut { OnErr result
@@ -125,7 +127,7 @@ pub(crate) fn import_text<D: Disk + AllocGlobal, I: Read>(
 
 // The lines of the changes that were made, and these, where there are any.
 #[tactic(auto, using(crate::proofs::NoteLaws::some_made, crate::proofs::NoteLaws::none_made))]
-fn made_texts(alloc: Global, hashes: Vec<Hash>) -> Result<(String, Option<Made>), CommandError>
+fn made_texts(alloc: Global, hashes: Vec<Hash>) -> Result<(String, Option<Made>), UpdateError>
     ensures lines { IfOk result (λ p. string_bytes p.0 ≡ lines_of_made hashes.items) }
     ensures made { IfOk result
         (λ p. IfSome p.1 (λ made. string_bytes p.0 ≡ output_of_made made)) }

@@ -1,7 +1,9 @@
 -- The refusals of jobs: their numbers, and which refusal of a layer below is which.
-use Rattle.std.specs.Prelude.{◌≡◌, ◌⊎◌, ℕ, ◌+◌}
+use Rattle.std.specs.Prelude.{◌≡◌, ◌⊎◌, ℕ, ◌+◌, Option, None, Some}
 use Rattle.tp_commands.specs.CommandError.{code_of as code_of_command, refusal_of_peer}
+use Rattle.tp_commands.specs.declared.error.CommandError.{CommandError}
 use Rattle.tp_commands.specs.declared.error.CommandError.TheVariants as command
+use Rattle.tp_commands.specs.declared.error.UpdateError.{UpdateError}
 use Rattle.tp_session.specs.declared.error.NetError.{NetError}
 use Rattle.tp_session.specs.declared.error.NetError.TheVariants as net
 use Rattle.tp_simulate.specs.declared.error.SimError.{SimError}
@@ -10,7 +12,7 @@ use Rattle.tp_textpeer.specs.declared.error.ShowError.{ShowError}
 use Rattle.tp_textpeer.specs.declared.error.ShowFault.{ShowFault}
 use Rattle.tp_textpeer.specs.declared.error.ShowFault.TheVariants as show
 use Rattle.tp_report.specs.declared.error.JobError.{JobError}
-use Rattle.tp_report.specs.declared.error.JobError.TheVariants.{Command, Show, Line, Session, Unreached, Closed, Unsaid}
+use Rattle.tp_report.specs.declared.error.JobError.TheVariants.{Command, Show, Line, Session, Unreached, Closed, Unsaid, HalfWay}
 use Rattle.tp_report.specs.declared.error.Made.{Made}
 
 -- a file or the output failed
@@ -43,6 +45,15 @@ code_of (Session e) = 10
 code_of (Unreached cause) = 2
 code_of Closed = 2
 code_of (Unsaid made) = 2
+code_of (HalfWay e place) = 1 + code_of_command e
+
+-- a refusal of a text's changes: with the place, where some were made before it
+abbrev pub refusal_at : CommandError → Option ℕ → JobError
+refusal_at e (Some place) = HalfWay e place
+refusal_at e None = Command e
+
+abbrev pub refusal_of_update : UpdateError → JobError
+refusal_of_update e = refusal_at e.error e.place
 
 -- a refusal of a log, unless the log isn't at fault
 abbrev pub refusal_by : ShowFault → ShowError → JobError

@@ -14,7 +14,7 @@ use Rattle.tp_session.specs.declared.error.NetError.TheVariants as net
 use Rattle.tp_simulate.specs.Names.{name_of_bytes, name_of_document, name_of_peer}
 use Rattle.tp_textpeer.specs.Refusal.{show_refusal_text as text_of_log_refusal}
 use Rattle.tp_report.specs.declared.error.JobError.{JobError}
-use Rattle.tp_report.specs.declared.error.JobError.TheVariants.{Command, Show, Line, Session, Unreached, Closed, Unsaid}
+use Rattle.tp_report.specs.declared.error.JobError.TheVariants.{Command, Show, Line, Session, Unreached, Closed, Unsaid, HalfWay}
 use Rattle.tp_report.specs.declared.error.Made.{Made}
 use Rattle.tp_report.specs.declared.error.Made.TheVariants.{Document, Change, Changes}
 use Rattle.tp_list.specs.Bytes.{line}
@@ -63,6 +63,7 @@ refusal_text (Session e) = codes "textpeer: " ++ name_of_session e
 refusal_text (Unreached cause) = codes "textpeer: Io"
 refusal_text Closed = codes "textpeer: Io"
 refusal_text (Unsaid made) = codes "textpeer: Io"
+refusal_text (HalfWay e place) = codes "textpeer: " ++ name_of_command e
 
 -- the lines of what was made, as the output has them: of an identifier, or of hashes
 abbrev pub output_of_made : Made → List ℕ
@@ -80,8 +81,13 @@ lines_of_unsaid (Document id) = codes "made " ++ line (encode_lower id.0)
 lines_of_unsaid (Change h) = change_made_line h
 lines_of_unsaid (Changes hs) = flat_map change_made_line hs.items
 
+-- the line that says up to where a text is new
+abbrev pub half_way_line : ℕ → List ℕ
+half_way_line place = line (codes "the text is new up to character " ++ decimal place)
+
 abbrev pub made_text : JobError → List ℕ
 made_text (Unsaid made) = lines_of_unsaid made
+made_text (HalfWay e place) = half_way_line place
 made_text e = []
 
 -- Where something was made that isn't said, P holds of the lines that would have said it.
@@ -89,6 +95,6 @@ abbrev pub WasMade : (List ℕ → Type 0) → JobError → Type 0
 WasMade P (Unsaid made) = P (output_of_made made)
 WasMade P e = Unit {0}
 
--- what is printed of a refusal: its line, and others where something was made that isn't said
+-- what is printed of a refusal: its line, and others where something was made that isn't said, or a text in part
 abbrev pub refusal_lines : JobError → List ℕ
 refusal_lines e = line (refusal_text e) ++ made_text e

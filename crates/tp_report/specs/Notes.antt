@@ -7,7 +7,7 @@ use Rattle.tp_peer.specs.declared.error.PeerError.TheVariants.{JournalNotEmpty}
 use Rattle.tp_peer.specs.declared.error.PeerError.TheVariants as peer
 use Rattle.tp_store.specs.declared.error.StoreError.TheVariants.{Damaged}
 use Rattle.tp_report.specs.declared.error.JobError.{JobError}
-use Rattle.tp_report.specs.declared.error.JobError.TheVariants.{Command, Show as ShowRefusal, Line}
+use Rattle.tp_report.specs.declared.error.JobError.TheVariants.{Command, HalfWay, Show as ShowRefusal, Line}
 use Rattle.tp_command_line.specs.declared.job.Beside.{Beside}
 use Rattle.tp_command_line.specs.declared.job.Beside.TheVariants.{Loaded, Made, Read, Rescued, Shared, Shown, Text}
 use Rattle.tp_command_line.specs.declared.job.Subject.{Subject}
@@ -51,6 +51,9 @@ names_file (Command Io) = false
 names_file (Command OutOfMemory) = false
 names_file (Command e) = true
 names_file (ShowRefusal r) = true
+names_file (HalfWay Io place) = false
+names_file (HalfWay OutOfMemory place) = false
+names_file (HalfWay e place) = true
 names_file (Line number) = true
 names_file e = false
 

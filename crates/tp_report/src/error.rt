@@ -3,11 +3,11 @@
 ghost use Rattle.std.specs.Prelude.{◌≡◌, Some};
 ghost use Rattle.tp_report.specs.declared.error.JobError.TheVariants.{Command};
 ghost use Rattle.tp_report.specs.Names.{name_of_command, name_of_session, refusal_text};
-ghost use Rattle.tp_report.specs.JobError.{code_of, no_memory, refusal_of_log, refusal_of_script, refusal_of_session};
+ghost use Rattle.tp_report.specs.JobError.{code_of, no_memory, refusal_of_log, refusal_of_script, refusal_of_session, refusal_of_update};
 
 use std::alloc::AllocError;
 use std::fmt;
-use tp_commands::CommandError;
+use tp_commands::{CommandError, UpdateError};
 use tp_net::Unreached;
 use tp_opid::{DocId, Hash};
 use tp_session::NetError;
@@ -44,6 +44,9 @@ pub enum JobError {
     Closed,
     /// The output failed or is closed, and what was to be printed there was made before: it stays made.
     Unsaid(Made),
+    /// A text was to become another one by several changes, and some were made before one was refused. Up to the character with
+    /// this number, from 0, the text is the new one at least; after that it is the old one.
+    HalfWay(CommandError, usize),
 }
 
 impl JobError {
@@ -61,6 +64,7 @@ impl JobError {
             JobError::Unreached(_) => 2,
             JobError::Closed => 2,
             JobError::Unsaid(_) => 2,
+            JobError::HalfWay(error, _) => 1 + error.code(),
         }
     }
 }
@@ -78,6 +82,17 @@ impl From<CommandError> for JobError {
 
     fn from(error: CommandError) -> JobError {
         JobError::Command(error)
+    }
+}
+
+impl From<UpdateError> for JobError {
+    ghost from_gives = { λ error e. e ≡ refusal_of_update error };
+
+    fn from(error: UpdateError) -> JobError {
+        match error.place {
+            Some(place) => JobError::HalfWay(error.error, place),
+            None => JobError::Command(error.error),
+        }
     }
 }
 
@@ -159,6 +174,7 @@ impl fmt::Display for JobError {
     fn fmt<W: fmt::Write>(&self, f: &mut fmt::Formatter<W>) -> fmt::Result {
         let name = match self {
             JobError::Command(error) => command_name(*error),
+            JobError::HalfWay(error, _) => command_name(*error),
             JobError::Unreached(_) => "Io",
             JobError::Closed => "Io",
             JobError::Unsaid(_) => "Io",

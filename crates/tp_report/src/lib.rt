@@ -13,6 +13,7 @@ pub use error::{JobError, Made};
 pub use log::{Log, tell_followed, tell_refusal};
 pub use notes::{note, note_text};
 pub use telling::{
-    DONE, REFUSED, applied_text, ended_with, exit_status, output_refusal, put, put_made, report,
+    DONE, REFUSED, applied_text, ended_with, exit_status, output_refusal, put, put_made,
+    put_updated, report,
 };
 pub use terminal::Shown;

@@ -98,6 +98,9 @@ fn names_file(error: &JobError) -> bool
         JobError::Command(_) => true,
         JobError::Show(_) => true,
         JobError::Line(_) => true,
+        JobError::HalfWay(CommandError::Io, _) => false,
+        JobError::HalfWay(CommandError::OutOfMemory, _) => false,
+        JobError::HalfWay(_, _) => true,
         _ => false,
     }
 }
@@ -302,10 +305,12 @@ fn sentence<D: Disk + AllocGlobal>(
         JobError::Command(CommandError::Io) => return system_advice(rt, subject),
         JobError::Command(CommandError::Busy) => return busy_advice(rt, subject.file),
         JobError::Command(CommandError::Store(StoreError::BadMagic)) => magic_advice(rt, subject),
-        JobError::Command(CommandError::Peer(PeerError::JournalFailed)) => {
+        JobError::Command(CommandError::Peer(PeerError::JournalFailed))
+        | JobError::HalfWay(CommandError::Peer(PeerError::JournalFailed), _) => {
             failed_advice(rt, subject.file)
         }
         JobError::Command(error) => rescue_advice(subject.beside, *error),
+        JobError::HalfWay(error, _) => advice(*error),
         JobError::Line(number) => return script_advice(rt, subject.file, *number),
         JobError::Show(_) => "each change has to be whole, and to follow the one before it",
         JobError::Session(error) => session_advice(*error),

@@ -1,20 +1,20 @@
 //! What is printed of what was done or refused, on either stream.
 
 ghost use Rattle.std.specs.List.{flat_map};
-ghost use Rattle.std.specs.Prelude.{◌≡◌, ◌⊎◌, ◌++◌, IfOk, IfErr, IfSome, OnOk, IsOkAnd, MatchResult};
+ghost use Rattle.std.specs.Prelude.{◌≡◌, ◌⊎◌, ◌++◌, Err, IfOk, IfErr, IfSome, OnOk, IsOkAnd, MatchResult};
 ghost use Rattle.std.specs.Io.KnownBytes.{Appends, Keeps};
 ghost use Rattle.std.specs.String.{string_bytes};
 ghost use Rattle.tp_textpeer.specs.Output.{AppendsPart};
 ghost use Rattle.tp_report.specs.Names.{WasMade, change_made_line, lines_of_unsaid, output_of_made, refusal_lines};
 ghost use Rattle.tp_report.specs.Telling.{applied_text as text_of_applied, GrowsPart, IsLineOf, IsToldOf, Reports, with_cut as text_with_cut};
-ghost use Rattle.tp_report.specs.JobError.{IsAllSaid, IsOfOutput, IsOutputFault};
+ghost use Rattle.tp_report.specs.JobError.{IsAllSaid, IsOfOutput, IsOutputFault, refusal_of_update};
 ghost use Rattle.tp_report.specs.declared.error.JobError.TheVariants.{Unsaid};
 
 use crate::error::{JobError, Made};
 use std::alloc::Global;
 use std::io;
 use std::io::{ErrorKind, Write};
-use tp_commands::{CommandError, hash_line, id_line};
+use tp_commands::{CommandError, UpdateError, hash_line, id_line};
 use tp_opid::Hash;
 use tp_textpeer::write_out;
 
@@ -165,7 +165,7 @@ fn refusal_line(
     Ok(line)
 }
 
-// The line of a refusal, and of what was made before it.
+// The line of a refusal, and of what was made before it, in whole or in part.
 fn refused_lines(alloc: Global, error: JobError) -> Result<String, CommandError>
     ensures { IfOk result (λ l. string_bytes l ≡ refusal_lines error) }
 {
@@ -174,6 +174,9 @@ fn refused_lines(alloc: Global, error: JobError) -> Result<String, CommandError>
         JobError::Unsaid(made) => {
             let lines = unsaid_lines(alloc, &made)?;
             Ok(format!(in alloc; "{line}{lines}")?)
+        }
+        JobError::HalfWay(_, place) => {
+            Ok(format!(in alloc; "{line}the text is new up to character {place}\n")?)
         }
         _ => Ok(line),
     }
@@ -266,5 +269,29 @@ pub fn put_made<W: Write>(
             }),
         },
         Err(error) => Err(JobError::Command(error)),
+    }
+}
+
+/// Writes the lines of the changes that made a text another one, as `put_made` does. Where some were made before one was refused,
+/// the refusal has the place up to where the text is new.
+pub fn put_updated<W: Write>(
+    out: &mut W,
+    printed: Result<(String, Option<Made>), UpdateError>,
+) -> Result<(), JobError>
+    requires { IfOk printed (λ p. IfSome p.1 (λ made. string_bytes p.0 ≡ output_of_made made)) }
+    ensures ok { OnOk result (IsOkAnd printed
+        (λ p. Appends (W.contents out.old) (W.contents out.new) (string_bytes p.0))) }
+    ensures err { IfErr result (λ e. Keeps (W.contents out.old) (W.contents out.new)
+        ⊎ (IsOfOutput e × IsOkAnd printed
+        (λ p. AppendsPart (W.contents out.old) (W.contents out.new) (string_bytes p.0)))) }
+    ensures unsaid { IfErr result
+        (WasMade (λ l. IsOkAnd printed (λ p. string_bytes p.0 ≡ l))) }
+    ensures tells { IfErr result
+        (λ e. IfOk printed (λ p. IfSome p.1 (λ made. e ≡ Unsaid made))) }
+    ensures refused { IfErr printed (λ e. result ≡ Err (refusal_of_update e)) }
+{
+    match printed {
+        Ok(printed) => put_made(out, Ok(printed)),
+        Err(error) => Err(JobError::from(error)),
     }
 }

@@ -1,10 +1,10 @@
-use Rattle.std.proofs.Common.{◌≡◌, ◌∙◌, List, [], ◌∷◌, ◌++◌, Option, Some, None, Ok, Err, ap, inr, subst, sym}
+use Rattle.std.proofs.Common.{◌≡◌, ◌∙◌, List, [], ◌∷◌, ◌++◌, Option, Some, None, Ok, Err, ap, subst, sym}
 use Rattle.std.specs.Str.{chars}
 use Rattle.tp_document.specs.Editing.{EditRequest, asking}
 use Rattle.tp_opid.specs.declared.hash.Hash.{Hash}
 use Rattle.tp_peer.specs.EditingAt.{StepsAt}
 use Rattle.tp_commands.specs.Since.{MakesNextAt}
-use Rattle.tp_commands.proofs.SinceLaws.{makes_one_at, makes_some_at, stops_one_at}
+use Rattle.tp_commands.proofs.SinceLaws.{leaves_at, makes_one_at, makes_some_at, refuses_one_at}
 use Rattle.tp_commands.proofs.since.edit_on.Goals as goal
 
 pub returns-in_ok-push-in-Ok-Some-2-clause-ok : goal.returns-in_ok-push-in-Ok-Some-2-clause-ok
@@ -38,4 +38,11 @@ returns-in-Err-clause-err g c =
     let by = c.args.by.now in
     let asked : EditRequest = asking by.actor c.args.splices.now by.time (chars by.message.now) in
     let step = subst (λ (hs : List Hash). StepsAt c.args.peer.now hs asked (Err c.in-Err.error) c.edit_at.new.self) c.deref.ensures.value c.in-Err.ensures.step in
-    λ p H ss rest before. inr (stops_one_at c.args.peer.now c.edit_at.new.self by.actor c.args.splices.now by.time (chars by.message.now) c.args.on.now.items c.args.hashes.now.items c.in-Err.error c.requires.runs step c.from.result c.from.ensures p H ss rest before)
+    refuses_one_at c.args.peer.now c.edit_at.new.self c.args.on.now.items asked c.in-Err.error c.from.result c.requires.runs step c.from.ensures
+
+pub returns-in-Err-clause-left : goal.returns-in-Err-clause-left
+returns-in-Err-clause-left g c =
+    let by = c.args.by.now in
+    let asked : EditRequest = asking by.actor c.args.splices.now by.time (chars by.message.now) in
+    let step = subst (λ (hs : List Hash). StepsAt c.args.peer.now hs asked (Err c.in-Err.error) c.edit_at.new.self) c.deref.ensures.value c.in-Err.ensures.step in
+    leaves_at c.args.peer.now c.edit_at.new.self c.args.on.now.items asked c.args.splices.now c.in-Err.error c.requires.runs step

@@ -26,16 +26,16 @@ pub returns-in-Update-clause-unsaid : goal.returns-in-Update-clause-unsaid
 returns-in-Update-clause-unsaid g c =
     let saw = g.D.Folders.saw c.args.rt.now in
     let update : FileJob = Update c.in-Update.file c.in-Update.source c.in-Update.since c.in-Update.time c.in-Update.message c.in-Update.key in
-    let P : FileJob → Type 0 = λ job. IfErr c.put_made-in-Update.result (WasMade (IsFilesPrinted saw job)) in
+    let P : FileJob → Type 0 = λ job. IfErr c.put_updated-in-Update.result (WasMade (IsFilesPrinted saw job)) in
     let lines =
     subst (λ (hs : List Hash). IfOk c.update_text.result (λ p. OfGiven saw c.in-Update.source.now (λ bytes. ChangesFile saw c.in-Update.file.now (λ before after.
     AreUpdateLines c.in-Update.key hs (chars bytes) c.in-Update.time (chars c.in-Update.message.now) before after (string_bytes p.0)))))
     c.deref.ensures.value c.update_text.ensures.lines in
-    subst P (sym c.in-Update.is) (made_of c.put_made-in-Update.result c.update_text.result (IsFilesPrinted saw update) (λ p. string_bytes p.0) c.put_made-in-Update.ensures.unsaid lines)
+    subst P (sym c.in-Update.is) (made_of c.put_updated-in-Update.result c.update_text.result (IsFilesPrinted saw update) (λ p. string_bytes p.0) c.put_updated-in-Update.ensures.unsaid lines)
 
 pub returns-in-Import-clause-unsaid : goal.returns-in-Import-clause-unsaid
 returns-in-Import-clause-unsaid g c =
     let saw = g.D.Folders.saw c.args.rt.now in
     let import : FileJob = Import c.in-Import.file c.in-Import.source c.in-Import.time c.in-Import.message c.in-Import.key in
-    let P : FileJob → Type 0 = λ job. IfErr c.put_made-in-Import.result (WasMade (IsFilesPrinted saw job)) in
-    subst P (sym c.in-Import.is) (made_of c.put_made-in-Import.result c.import_text.result (IsFilesPrinted saw import) (λ p. string_bytes p.0) c.put_made-in-Import.ensures.unsaid c.import_text.ensures.lines)
+    let P : FileJob → Type 0 = λ job. IfErr c.put_updated-in-Import.result (WasMade (IsFilesPrinted saw job)) in
+    subst P (sym c.in-Import.is) (made_of c.put_updated-in-Import.result c.import_text.result (IsFilesPrinted saw import) (λ p. string_bytes p.0) c.put_updated-in-Import.ensures.unsaid c.import_text.ensures.lines)
