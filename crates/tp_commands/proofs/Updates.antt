@@ -28,7 +28,7 @@ use Rattle.tp_commands.specs.declared.error.CommandError.{CommandError}
 use Rattle.tp_commands.specs.declared.error.UpdateError.{UpdateError}
 use Rattle.tp_commands.specs.Cutting.{AreStretchesCut}
 use Rattle.tp_commands.specs.HalfWay.{DoesFirst, stopping_place}
-use Rattle.tp_commands.specs.Updating.{AreEditsOf, IsFullBefore, IsNotRewritten, MakesEdits, MakesNext, MakesText, RefusesNext, StopsEdits, UpdatesJournal, hashes_of}
+use Rattle.tp_commands.specs.Updating.{AreEditsOf, IsFullBefore, IsNotRewritten, MakesEdits, MakesNext, MakesText, RefusesNextEdit, StopsEdits, UpdatesJournal, hashes_of}
 use Rattle.tp_commands.proofs.HalfWayLaws.{left_at}
 
 edits-push : (actor : Actor) (time : ℕ) (message : List ℕ) (C cs : List ChangeParts) (c : ChangeParts) (ss next later : List Splice) → AreEditsOf actor time message C ss (next ++ later) cs → IsFullBefore next later
@@ -204,7 +204,7 @@ refused_keeps p p' ss time message e running step = kept_by p p' (asking p.actor
 
 -- the edits of those before a place were made, and the next was refused
 pub stops_edits : (p q : PeerState) (ss next : List Splice) (from time : ℕ) (message : List ℕ) (hashes : List Hash) (error : CommandError) (e : UpdateError) → MakesEdits p ss (drop from ss) time message hashes q
-    → e.error ≡ error → e.place ≡ stopping_place (take from ss) (drop from ss) → RefusesNext q next time message error → StopsEdits p ss time message e
+    → e.error ≡ error → e.place ≡ stopping_place (take from ss) (drop from ss) → RefusesNextEdit q next time message error → StopsEdits p ss time message e
 stops_edits p q ss next from time message hashes error e made is place refused = record {
   now = q;
   made = made.made;
@@ -214,7 +214,7 @@ stops_edits p q ss next from time message hashes error e made is place refused =
   parts = sym (take-append-drop from ss);
   edits = made.edits;
   applied = made.applied;
-  refuses = subst (RefusesNext q next time message) (sym is) refused;
+  refuses = subst (RefusesNextEdit q next time message) (sym is) refused;
   place_is = place;
 }
 

@@ -98,8 +98,8 @@ abbrev pub HasNoCharacters : List ℕ → Type 0
 HasNoCharacters bytes = (id : DocId) × (changes : List ChangeParts) × (keep : ℕ) × Recovers bytes id changes keep × IsTextOf changes []
 
 -- why the next edit isn't made: memory was refused, or the peer refused it
-abbrev pub RefusesNext : PeerState → List Splice → ℕ → List ℕ → CommandError → Type 0
-RefusesNext p next time message e = (e ≡ OutOfMemory) ⊎ RefusesCall p (Edit next time message) e
+abbrev pub RefusesNextEdit : PeerState → List Splice → ℕ → List ℕ → CommandError → Type 0
+RefusesNextEdit p next time message e = (e ≡ OutOfMemory) ⊎ RefusesCall p (Edit next time message) e
 
 -- The peer made the edits of the first of the splices, and was refused the next; the place is where those that are left begin.
 pub record StopsEdits (p : PeerState) (ss : List Splice) (time : ℕ) (message : List ℕ) (e : UpdateError) : Type 0 where
@@ -111,7 +111,7 @@ pub record StopsEdits (p : PeerState) (ss : List Splice) (time : ℕ) (message :
   pub parts : ss ≡ first ++ rest
   pub edits : AreEditsOf p.actor time message p.applied ss rest made
   pub applied : now.applied ≡ p.applied ++ made
-  pub refuses : RefusesNext now next time message e.error
+  pub refuses : RefusesNextEdit now next time message e.error
   pub place_is : e.place ≡ stopping_place first rest
 
 -- The peer's text was to be made this one by the edits of the differences between the two. Some of them were made, up to the

@@ -12,7 +12,7 @@ ghost use Rattle.tp_store.specs.declared.error.StoreError.TheVariants.{OutOfMemo
 ghost use Rattle.tp_edit.specs.Text.{IsTextOf};
 ghost use Rattle.tp_commands.specs.declared.error.CommandError.TheVariants.{NotText};
 ghost use Rattle.tp_commands.specs.HalfWay.{DoesFirst, stopping_place};
-ghost use Rattle.tp_commands.specs.Updating.{HasNoCharacters, IsFullBefore, IsNotImported, IsNotRewritten, IsNotUpdated, MakesEdits, MakesNext, MakesText, RefusesNext, StopsEdits, UpdatesJournal};
+ghost use Rattle.tp_commands.specs.Updating.{HasNoCharacters, IsFullBefore, IsNotImported, IsNotRewritten, IsNotUpdated, MakesEdits, MakesNext, MakesText, RefusesNextEdit, StopsEdits, UpdatesJournal};
 ghost use Rattle.tp_edit.specs.Splices.{count_of_splice, total_count};
 
 use crate::cutting::differences_in_parts;
@@ -74,7 +74,7 @@ fn edit_once<J: Journal>(
     ensures ok { OnOk result (MakesNext splices.now time (chars message.now)
         hashes.old.items peer.old hashes.new.items peer.new) }
     ensures text { OnOk result (DoesSplices peer.old.applied peer.new.applied splices.now) }
-    ensures err { IfErr result (λ e. RefusesNext peer.old splices.now time (chars message.now) e) }
+    ensures err { IfErr result (λ e. RefusesNextEdit peer.old splices.now time (chars message.now) e) }
     ensures left { OnErr result ((peer.new.applied ≡ peer.old.applied)
         ⊎ DoesSplices peer.old.applied peer.new.applied splices.now) }
 {
