@@ -1,5 +1,5 @@
 -- What edits of earlier texts leave of a peer.
-use Rattle.std.proofs.Common.{◌≡◌, ◌∙◌, refl, ap, sym, false, List, [], ◌++◌, ℕ, Option, Result, Ok, Err, append-nil, append_assoc}
+use Rattle.std.proofs.Common.{◌≡◌, ◌∙◌, refl, ap, sym, false, List, [], ◌++◌, Option, Result, Ok, Err, append-nil, append_assoc}
 use Rattle.std.specs.Prelude.{MatchResult}
 use Rattle.tp_layout.specs.declared.parts.ChangeParts.{ChangeParts}
 use Rattle.tp_document.specs.Editing.{EditRequest}
@@ -7,7 +7,6 @@ use Rattle.tp_opid.specs.declared.hash.Hash.{Hash}
 use Rattle.tp_peer.proofs.EarlierLaws.{edit_now, edits_at_keep, refused_at_keeps}
 use Rattle.tp_peer.specs.EditingAt.{EditsAt, RefusesEditAt, StepsAt}
 use Rattle.tp_peer.specs.Laws.{Keeps}
-use Rattle.tp_peer.specs.Links.{known_of}
 use Rattle.tp_peer.specs.PeerState.{PeerState}
 use Rattle.tp_peer.specs.PeerStep.{Reply}
 use Rattle.tp_peer.specs.declared.editing_at.EditAtError.{EditAtError}

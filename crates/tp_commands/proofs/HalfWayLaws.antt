@@ -4,7 +4,7 @@ use Rattle.std.proofs.lemmas.List.{drop-drop, drop_at, length-take-le, take-appe
 use Rattle.tp_layout.specs.declared.parts.ChangeParts.{ChangeParts}
 use Rattle.tp_diff.specs.Differences.{AreSpaced, LeadAcross, start_after}
 use Rattle.tp_edit.specs.declared.splice.Splice.{Splice}
-use Rattle.tp_edit.specs.Splices.{AllInRange, all_spliced, count_of_splice, inserted_chars, splice_at}
+use Rattle.tp_edit.specs.Splices.{AllInRange, all_spliced, inserted_chars, splice_at}
 use Rattle.tp_edit.proofs.Landed.{length-splice_at}
 use Rattle.tp_edit.specs.Text.{IsTextOf}
 use Rattle.tp_commands.specs.HalfWay.{DoesFirst, IsHalfWay, IsLeftAt, splices_end, splices_start}
@@ -90,7 +90,7 @@ half_way most old new first later lead =
 
 start_spaced : (most e : ℕ) (later : List Splice) → AreSpaced most e later → (e ≤ splices_start e later) × AreSpaced most (splices_start e later) later
 start_spaced most e [] apart = (omega arith, tt)
-start_spaced most e (s ∷ later) apart = (apart.0, omega arith, apart.1, apart.2, apart.3)
+start_spaced most e (s ∷ later) apart = (apart.0, (omega arith, apart.1, apart.2, apart.3))
 
 -- it is new up to where the later ones begin too
 half_way_on : (most : ℕ) (old new : List ℕ) (first later : List Splice) → LeadAcross most old new (first ++ later)

@@ -1,7 +1,6 @@
 -- Splices that are cut into parts lead where they led.
 use Rattle.std.proofs.Common.{◌≡◌, ◌≢◌, ◌∙◌, ap, refl, sym, subst, ℕ, ◌+◌, ◌-◌, ◌<◌, ◌≤◌, List, [], ◌∷◌, ◌++◌, length, take, drop, inl, inr, arith, append_assoc, append-nil, length-append}
 use Rattle.std.proofs.lemmas.Bool.Decides.{nat_tests}
-use Rattle.std.specs.Prelude.{◌⊎◌, ◌==◌, if◌then◌else◌}
 use Rattle.std.proofs.lemmas.List.{drop-drop, drop_at, length-take-le}
 use Rattle.std.proofs.Math.Seq.{take-append_seam}
 use Rattle.tp_layout.specs.declared.limits.TheConstants.{MAX_OPS}
@@ -9,7 +8,7 @@ use Rattle.tp_diff.specs.Differences.{AllChange, AreSpaced, LeadAcross, gap_afte
 use Rattle.tp_edit.specs.declared.splice.Splice.{Splice}
 use Rattle.tp_edit.specs.Splices.{AllInRange, IsInRange, all_spliced, count_of_splice, inserted_chars, splice_at}
 use Rattle.tp_edit.proofs.Landed.{length-splice_at}
-use Rattle.tp_commands.specs.Cutting.{AreCutUp, AreStretchesCut, IsCutInto, IsCutUp}
+use Rattle.tp_commands.specs.Cutting.{AreCutUp, IsCutInto, IsCutUp}
 
 -- what a splice makes of a text
 abbrev done : List ℕ → Splice → List ℕ

@@ -1,6 +1,9 @@
-use Rattle.std.proofs.Common.{◌≡◌, ◌∙◌, List, [], ◌∷◌, ◌++◌, Option, Some, None, Ok, Err, ap, subst, sym}
+use Rattle.std.proofs.Common.{◌≡◌, ◌∙◌, List, [], ◌∷◌, ◌++◌, Option, Some, Result, Ok, Err, ap, inr, subst, sym}
+use Rattle.std.specs.Prelude.{IfSome, OnErr}
 use Rattle.std.specs.Str.{chars}
-use Rattle.tp_document.specs.Editing.{EditRequest, asking}
+use Rattle.tp_document.specs.Editing.{DoesSplices, EditRequest, asking}
+use Rattle.tp_edit.specs.declared.splice.Splice.{Splice}
+use Rattle.tp_history.specs.Past.{past}
 use Rattle.tp_opid.specs.declared.hash.Hash.{Hash}
 use Rattle.tp_peer.specs.EditingAt.{StepsAt}
 use Rattle.tp_commands.specs.Since.{MakesNextAt}
@@ -46,3 +49,28 @@ returns-in-Err-clause-left g c =
     let asked : EditRequest = asking by.actor c.args.splices.now by.time (chars by.message.now) in
     let step = subst (λ (hs : List Hash). StepsAt c.args.peer.now hs asked (Err c.in-Err.error) c.edit_at.new.self) c.deref.ensures.value c.in-Err.ensures.step in
     leaves_at c.args.peer.now c.edit_at.new.self c.args.on.now.items asked c.args.splices.now c.in-Err.error c.requires.runs step
+
+-- the change was made whose hash couldn't be kept
+kept_on : {A E P : Type 0} (r : Result A E) → P → OnErr r P
+kept_on (Ok x) p = tt
+kept_on (Err e) p = p
+
+pub returns-in_err-push-in-Ok-Some-clause-left : goal.returns-in_err-push-in-Ok-Some-clause-left
+returns-in_err-push-in-Ok-Some-clause-left g c =
+    let p = c.args.peer.now in
+    let after = c.edit_at.new.self in
+    let h : Hash = c.in-Ok-Some.hash in
+    let ss : List Splice = c.args.splices.now in
+    let does_at = subst (λ (o : Option Hash). IfSome o (λ x. DoesSplices (past p.applied c.deref.result.now) (past after.applied (x ∷ [])) ss)) c.in-Ok-Some.field-0-is c.in-Ok-Some.ensures.text in
+    let does = subst (λ (hs : List Hash). DoesSplices (past p.applied hs) (past after.applied (h ∷ [])) ss) c.deref.ensures.value does_at in
+    kept_on c.from_residual.result (h ∷ [], inr does)
+
+pub returns-in_err-push-in-Ok-Some-2-clause-left : goal.returns-in_err-push-in-Ok-Some-2-clause-left
+returns-in_err-push-in-Ok-Some-2-clause-left g c =
+    let p = c.args.peer.now in
+    let after = c.edit_at.new.self in
+    let h : Hash = c.in-Ok-Some.hash in
+    let ss : List Splice = c.args.splices.now in
+    let does_at = subst (λ (o : Option Hash). IfSome o (λ x. DoesSplices (past p.applied c.deref.result.now) (past after.applied (x ∷ [])) ss)) c.in-Ok-Some.field-0-is c.in-Ok-Some.ensures.text in
+    let does = subst (λ (hs : List Hash). DoesSplices (past p.applied hs) (past after.applied (h ∷ [])) ss) c.deref.ensures.value does_at in
+    kept_on c.from_residual-in_err-push-in-Ok-Some-2.result (h ∷ [], inr does)
