@@ -26,12 +26,12 @@ pub returns-in-Update-clause-unsaid : goal.returns-in-Update-clause-unsaid
 returns-in-Update-clause-unsaid g c =
     let saw = g.D.Folders.saw c.args.rt.now in
     let update : FileJob = Update c.in-Update.file c.in-Update.source c.in-Update.since c.in-Update.time c.in-Update.message c.in-Update.key in
-    let P : FileJob → Type 0 = λ job. IfErr c.put_updated-in-Update.result (WasMade (IsFilesPrinted saw job)) in
+    let P : FileJob → Type 0 = λ job. IfErr c.put_updated.result (WasMade (IsFilesPrinted saw job)) in
     let lines =
     subst (λ (hs : List Hash). IfOk c.update_text.result (λ p. OfGiven saw c.in-Update.source.now (λ bytes. ChangesFile saw c.in-Update.file.now (λ before after.
     AreUpdateLines c.in-Update.key hs (chars bytes) c.in-Update.time (chars c.in-Update.message.now) before after (string_bytes p.0)))))
     c.deref.ensures.value c.update_text.ensures.lines in
-    subst P (sym c.in-Update.is) (made_of c.put_updated-in-Update.result c.update_text.result (IsFilesPrinted saw update) (λ p. string_bytes p.0) c.put_updated-in-Update.ensures.unsaid lines)
+    subst P (sym c.in-Update.is) (made_of c.put_updated.result c.update_text.result (IsFilesPrinted saw update) (λ p. string_bytes p.0) c.put_updated.ensures.unsaid lines)
 
 pub returns-in-Import-clause-unsaid : goal.returns-in-Import-clause-unsaid
 returns-in-Import-clause-unsaid g c =
