@@ -27,7 +27,7 @@ typedef struct tp_handle {
 #define TP_VERSION "0.1.0"
 
 /* The short hash of the commit that this is a release of; it is empty where it is none. */
-#define TP_COMMIT "38937e4d"
+#define TP_COMMIT "f858dc43"
 
 static inline const char *tp_version(void)
 {
